@@ -41,10 +41,22 @@ pub enum BinFault {
     ShiftCount(i64),
 }
 
+/// What an append puts behind a slice's elements.
+#[derive(Clone, Copy, Debug, PartialEq, Eq)]
+pub enum Added {
+    /// The elements in slots.
+    Slots,
+    /// The elements of a slice.
+    Slice,
+}
+
 /// An instruction of 16 bytes. Its slots are words of the running frame, counted from the frame's lowest word, 0; they
 /// never name the frame's two highest words, the link and the return place. The result goes to slot a. Incoming words
 /// are the arguments and results of the running function, which stand after the end of its frame: word 0 is the first
 /// argument's, and after the arguments come the results.
+///
+/// A slice's header is three words: the address of its first element, its length and its capacity. A site is the number of
+/// the place in the source where a variable or an array is made; nothing that a run does depends on it.
 #[derive(Clone, Copy, Debug, PartialEq, Eq)]
 pub enum Instr {
     /// The slot gets this word.
@@ -159,6 +171,64 @@ pub enum Instr {
         b: u16,
         c: u16,
         len: u16,
+        w: u16,
+    },
+    /// The slot a gets the address of an element of w words, modulo 2^64: the one with the index in slot c of the slice whose
+    /// header stands in the slots from b on. Where the slice has no such element, the program panics.
+    SliceIndex {
+        a: u16,
+        b: u16,
+        c: u16,
+        w: u16,
+    },
+    /// The slots from a on get the header of a part of the slice of elements of w words whose header stands in those from b on:
+    /// from the index in slot c up to the one in slot c + 1, with all the capacity behind its beginning. Where the upper index is
+    /// not from 0 to the capacity, or else the lower one not from 0 to the upper one, the program panics.
+    Slice {
+        a: u16,
+        b: u16,
+        c: u16,
+        w: u16,
+    },
+    /// A variable of the site is born in the n slots from a on, which get zeros.
+    Born {
+        a: u16,
+        n: u16,
+        site: u32,
+    },
+    /// The slot a gets the address of n new words of the heap, all zero.
+    Alloc {
+        a: u16,
+        n: u16,
+        site: u32,
+    },
+    /// The slot a gets the address of a new array on the heap, all zero, which makes the slots from a on the header of a slice
+    /// of elements of w words: its length and its capacity stand in a + 1 and a + 2. Where the length is not from 0 to 2^40, or
+    /// else the capacity not from the length to 2^40, the program panics.
+    Make {
+        a: u16,
+        w: u16,
+        site: u32,
+    },
+    /// Elements of w words are put behind those of the slice whose header stands in the slots from b on, and the slots from a on
+    /// get the header of the longer slice: d elements that stand in the slots from c on, or those of the slice whose header
+    /// stands there, and then d is 0. Where the capacity doesn't suffice, the elements move to a new array on the heap, of the
+    /// greater of the length that is needed and twice the capacity.
+    Append {
+        added: Added,
+        a: u16,
+        b: u16,
+        c: u16,
+        d: u16,
+        w: u16,
+        site: u32,
+    },
+    /// The elements of w words of the slice whose header stands in the slots from c on are copied over those of the slice with
+    /// the header from b on, as many as both have, as through a copy. The slot a gets their number.
+    Copy {
+        a: u16,
+        b: u16,
+        c: u16,
         w: u16,
     },
     /// Prints the slot's number in decimal.

@@ -13,4 +13,4 @@ mod instr;
 
 pub use code::Code;
 pub use func::Func;
-pub use instr::{BinFault, BinOp, Instr, UnOp, bin, bit, un};
+pub use instr::{Added, BinFault, BinOp, Instr, UnOp, bin, bit, un};

@@ -1,6 +1,6 @@
 -- A run goes on by its steps.
-use Rattle.std.proofs.Common.{◌≡◌, ℕ, zero, suc, ◌+◌, ◌-◌, ◌<◌, ◌≤◌, Bool, true, false, List, [], ◌∷◌, ◌++◌, drop, Option, Some, None, arith, refl, ap, sym, ◌∙◌, subst, length, append_assoc, append-nil}
-use Rattle.std.specs.Prelude.{if◌then◌else◌, nat_lt, slice_get}
+use Rattle.std.proofs.Common.{◌≡◌, ℕ, zero, suc, ◌+◌, ◌-◌, ◌*◌, ◌<◌, ◌≤◌, Bool, true, false, List, [], ◌∷◌, ◌++◌, drop, Option, Some, None, arith, refl, ap, sym, ◌∙◌, subst, length, append_assoc, append-nil}
+use Rattle.std.specs.Prelude.{◌==◌, ◌&&◌, if◌then◌else◌, nat_le, nat_lt, slice_get}
 use Rattle.std.proofs.lemmas.Option.{slice_get_within}
 use Rattle.outside.specs.Took.{Took, TookPrefix}
 use Rattle.outside.proofs.Took.{Took-trans, Took-nothing}
@@ -8,14 +8,20 @@ use Rattle.simulation.specs.Steps.{Goes, Stops, events_of, behind, go_on, many}
 use Rattle.simulation.proofs.Whole.{many_none, many_more}
 use Rattle.heap_bump.specs.Words.{Words}
 use Rattle.isa.specs.Code.{Tables, IsCode}
+use Rattle.isa.specs.declared.instr.Added.{Added}
+use Rattle.isa.specs.declared.instr.Added.TheVariants.{Slots, Slice as OfSlice}
+use Rattle.isa.specs.declared.instr.Instr.{Instr}
+use Rattle.isa.specs.declared.instr.Instr.TheVariants.{Const, Zero, Move, MoveWords, Same, Differ, Bin, Un, Jump, JumpZero, Call, Argument, ArgumentWords, SetResults, Load, Store, Address, Offset, Index, SliceIndex, Slice, Born, Alloc, Make, Append, Copy, PrintInt, PrintBool, PrintText, PrintSpace, PrintLine, ReadInt, Return, Exit as ExitWith, PanicText, PanicInt, PanicBool}
 use Rattle.isa.specs.declared.func.Func.{Func}
-use Rattle.machine.specs.Machine.{State, Does, Event, Printed, Asked, Item, bytes_of, asks_in, act, act_on, calls, entered, address_of, zeroed, frame_of, owner_of}
+use Rattle.machine.specs.Machine.{State, Does, Event, Printed, Asked, Item, bytes_of, asks_in, act, act_on, calls, entered, address_of, zeroed, frame_of, owner_of, slot, puts, spot_of, is_nowhere, next_address, most_elements, taken, takes, touches, allocates, makes, element, header, grown, adds_in_place, adds_in_new, moves_old, adds, appends, appends_to, are_sizes, words_in, put_at, puts_words}
+use Rattle.machine.specs.declared.memory.Spot.{Spot}
+use Rattle.machine.specs.declared.memory.Spot.TheVariants.{InHeap, InStack}
 use Rattle.machine.specs.Inside.{Inside}
-use Rattle.machine.specs.Answers.{Answers, AskedBehind, CallFits, PrintedInPart, Refused, RunAnswers, Unwritten, WithAnswers, printed_by, state_of}
+use Rattle.machine.specs.Answers.{Answers, AskedBehind, Needs, NeedsMemory, PrintedInPart, Refused, RunAnswers, Unwritten, WithAnswers, printed_by, state_of}
 use Rattle.machine.specs.declared.run_state.RunState.{RunState}
 use Rattle.machine.proofs.Reading.{joined, follows, nothing_read, goes_on_is_no_fault}
 use Rattle.machine.specs.declared.run_state.Ending.{Ending}
-use Rattle.machine.specs.declared.run_state.Ending.TheVariants.{Exit, Panic, ReadFault, WriteFault, NoMemory, StackLimit, HeapLimit, WildAddress, WildReturn, WildLink}
+use Rattle.machine.specs.declared.run_state.Ending.TheVariants.{Exit, Panic, ReadFault, WriteFault, NoMemory, StackLimit, HeapLimit, WildAddress, WildReturn, WildLink, WildHeader}
 
 -- a run that has come so far, with `answered` items read
 pub record Going (t : Tables) (max : ℕ) (items : ℕ → Item) (steps : ℕ) (first : State) (left : ℕ) (s : State) (answered : ℕ) (old now : Option (List ℕ)) : Type 0 where
@@ -172,6 +178,7 @@ module _ (t : Tables) (max : ℕ) (items : ℕ → Item) (steps : ℕ) (first : 
     ends (WildAddress n) a = stopped (WildAddress n) a
     ends (WildReturn n) a = stopped (WildReturn n) a
     ends (WildLink n) a = stopped (WildLink n) a
+    ends (WildHeader n) a = stopped (WildHeader n) a
 
 pub runs_out : (t : Tables) (max : ℕ) (items : ℕ → Item) (steps : ℕ) (first : State) (left : ℕ) (s : State) (answered : ℕ) (old now : Option (List ℕ)) (before later : ℕ)
     → Going t max items steps first left s answered old now → left ≤ 0 → Answers (many (act t max items) steps first) s answered None old now before later
@@ -184,10 +191,10 @@ runs_out t max items steps first left s answered old now before later g none =
 pub below : (t : Tables) (long pc base : ℕ) → IsCode t → Inside t long pc base → pc < length t.instrs
 below t long pc base code inside = subst (λ n. pc < n) code.same (slice_get_within t.owners pc inside.f inside.owner)
 
--- memory was refused to a call after the steps that were done
+-- memory was refused to an instruction after the steps that were done
 pub refused : (t : Tables) (max : ℕ) (items : ℕ → Item) (steps : ℕ) (first : State) (left : ℕ) (s : State) (answered : ℕ) (old now late : Option (List ℕ))
-    → Going t max items steps first left s answered old now → 0 < left → CallFits t max s.pc s.words → Took now late [] → Refused t max items steps first answered old late
-refused t max items steps first left s answered old now late g some call nothing =
+    → Going t max items steps first left s answered old now → 0 < left → NeedsMemory t max s.pc s.words s.heap → Took now late [] → Refused t max items steps first answered old late
+refused t max items steps first left s answered old now late g some needs nothing =
     let within = g.within in
     let so_far : many (act t max items) (steps - left) first ≡ Goes (g.done ++ []) s =
     g.whole 0 (steps - left) (omega arith) ∙ ap (behind g.done) (many_none State Event Ending (act t max items) s) in
@@ -197,7 +204,7 @@ refused t max items steps first left s answered old now late g some call nothing
       told = g.done ++ [];
       state = s;
       whole = so_far;
-      call = call;
+      needs = needs;
       asked = rw (append-nil g.done) g.asked;
       took = rw (bytes_append g.done []) (Took-trans old now late _ _ g.took nothing);
     }
@@ -251,9 +258,104 @@ call_events max frame (Some callee) s = by (nat_lt max (length s.words + callee.
     by true = refl
     by false = refl
 
-call_asks : (t : Tables) (max : ℕ) (items : ℕ → Item) (s : State) → CallFits t max s.pc s.words → asks_in (events_of (act t max items s)) ≡ 0
-call_asks t max items s call =
-    ap (λ i. asks_in (events_of (act_on t max items i s))) call.1 ∙ ap asks_in (call_events max (frame_of t (owner_of t s.pc)) (slice_get t.funcs call.0) s)
+if_nothing : (b : Bool) (d e : Does) → events_of d ≡ [] → events_of e ≡ [] → events_of (let done : Does = if b then d else e in done) ≡ []
+if_nothing true d e p q = p
+if_nothing false d e p q = q
+
+takes_nothing : (s : State) (count : ℕ) (does : State → Does) → ((t : State) → events_of (does t) ≡ []) → events_of (takes s count does) ≡ []
+takes_nothing s count does none = if_nothing (nat_lt s.heap.max (length s.heap.words + count)) _ (does (taken s count)) refl (none (taken s count))
+
+touches_nothing : (max : ℕ) (s : State) (at count : ℕ) (does : Spot → Does) → ((spot : Spot) → events_of (does spot) ≡ []) → events_of (touches max s at count does) ≡ []
+touches_nothing max s at count does none =
+    let spot = spot_of max s.heap.words s.words at count in if_nothing (is_nowhere spot) _ (does spot) refl (none spot)
+
+allocates_nothing : (s : State) (a count : ℕ) → events_of (allocates s a count) ≡ []
+allocates_nothing s a count = takes_nothing s count (λ t. puts t a (next_address s)) (λ t. refl)
+
+makes_nothing : (s : State) (a long capacity w : ℕ) → events_of (makes s a long capacity w) ≡ []
+makes_nothing s a long capacity w =
+    if_nothing (nat_le long most_elements) _ _
+    (if_nothing (nat_le long capacity && nat_le capacity most_elements) _ _ (allocates_nothing s a (capacity * w)) refl)
+    refl
+
+adds_nothing : (max : ℕ) (s : State) (a first long capacity count w : ℕ) (source : Spot) → events_of (adds max s a first long capacity count w source) ≡ []
+adds_nothing max s a first long capacity count w source =
+    let put = words_in source s.heap.words s.words (count * w) in
+    let room = grown (long + count) capacity in
+    let rest : State → Does = λ t. puts_words (put_at (InHeap (length s.heap.words + long * w)) t put) a (header (next_address s) (long + count) room) in
+    let renewed : State → Spot → Does = λ t spot. rest (put_at (InHeap (length s.heap.words)) t (words_in spot t.heap.words t.words (long * w))) in
+    if_nothing (nat_le (long + count) capacity) (adds_in_place max s a first long capacity count w source) (adds_in_new max s a first long room count w source)
+    (touches_nothing max s (element first long w) (count * w) (λ target. puts_words (put_at target s put) a (header first (long + count) capacity)) (λ spot. refl))
+    (takes_nothing s (room * w) (λ t. moves_old max t first long w (length s.heap.words) rest)
+    (λ t. if_nothing (long == 0) (rest t) (touches max t first (long * w) (renewed t)) refl (touches_nothing max t first (long * w) (renewed t) (λ spot. refl))))
+
+appends_nothing : (max : ℕ) (s : State) (added : Added) (a b c d w : ℕ) → events_of (appends max s added a b c d w) ≡ []
+appends_nothing max s added a b c d w = if_nothing (are_sizes (slot s (b + 1)) (slot s (b + 2))) (appends_to max s added a first long capacity c d w) (Stops [] (WildHeader long)) (by added) refl
+  where
+    first : ℕ
+    first = slot s b
+
+    long : ℕ
+    long = slot s (b + 1)
+
+    capacity : ℕ
+    capacity = slot s (b + 2)
+
+    by : (x : Added) → events_of (appends_to max s x a first long capacity c d w) ≡ []
+    by Slots = if_nothing (d == 0) (puts_words s a (header first long capacity)) (adds max s a first long capacity d w (InStack c)) refl (adds_nothing max s a first long capacity d w (InStack c))
+    by OfSlice =
+        let count = slot s (c + 1) in
+        let put : Spot → Does = λ source. adds max s a first long capacity count w source in
+        let found = touches max s (slot s c) (count * w) put in
+        let some : Does = if count == 0 then puts_words s a (header first long capacity) else found in
+        if_nothing (nat_le count most_elements) some (Stops [] (WildHeader count))
+        (if_nothing (count == 0) (puts_words s a (header first long capacity)) found refl
+        (touches_nothing max s (slot s c) (count * w) put (λ source. adds_nothing max s a first long capacity count w source)))
+        refl
+
+-- an instruction that needs memory tells nothing
+needy_events : (t : Tables) (max : ℕ) (items : ℕ → Item) (s : State) (i : Instr) → Needs t max s.words s.heap i → events_of (act_on t max items (Some i) s) ≡ []
+needy_events t max items s (Call g) needs = call_events max (frame_of t (owner_of t s.pc)) (slice_get t.funcs g) s
+needy_events t max items s (Alloc a n site) needs = allocates_nothing s a n
+needy_events t max items s (Make a w site) needs = makes_nothing s a (slot s (a + 1)) (slot s (a + 2)) w
+needy_events t max items s (Append added a b c d w site) needs = appends_nothing max s added a b c d w
+needy_events t max items s (Const a word) needs = absurd needs
+needy_events t max items s (Zero a n) needs = absurd needs
+needy_events t max items s (Move a b) needs = absurd needs
+needy_events t max items s (MoveWords a b n) needs = absurd needs
+needy_events t max items s (Same a b c n) needs = absurd needs
+needy_events t max items s (Differ a b c n) needs = absurd needs
+needy_events t max items s (Bin op a b c) needs = absurd needs
+needy_events t max items s (Un op a b) needs = absurd needs
+needy_events t max items s (Jump to) needs = absurd needs
+needy_events t max items s (JumpZero a to) needs = absurd needs
+needy_events t max items s (Argument a b) needs = absurd needs
+needy_events t max items s (ArgumentWords a b n) needs = absurd needs
+needy_events t max items s (SetResults a b n) needs = absurd needs
+needy_events t max items s (Load a b off n) needs = absurd needs
+needy_events t max items s (Store a off c n) needs = absurd needs
+needy_events t max items s (Address a b) needs = absurd needs
+needy_events t max items s (Offset a b off) needs = absurd needs
+needy_events t max items s (Index a b c len w) needs = absurd needs
+needy_events t max items s (SliceIndex a b c w) needs = absurd needs
+needy_events t max items s (Slice a b c w) needs = absurd needs
+needy_events t max items s (Born a n site) needs = absurd needs
+needy_events t max items s (Copy a b c w) needs = absurd needs
+needy_events t max items s (PrintInt a) needs = absurd needs
+needy_events t max items s (PrintBool a) needs = absurd needs
+needy_events t max items s (PrintText text) needs = absurd needs
+needy_events t max items s PrintSpace needs = absurd needs
+needy_events t max items s PrintLine needs = absurd needs
+needy_events t max items s (ReadInt a) needs = absurd needs
+needy_events t max items s Return needs = absurd needs
+needy_events t max items s (ExitWith a) needs = absurd needs
+needy_events t max items s (PanicText text) needs = absurd needs
+needy_events t max items s (PanicInt a) needs = absurd needs
+needy_events t max items s (PanicBool a) needs = absurd needs
+
+needy_asks : (t : Tables) (max : ℕ) (items : ℕ → Item) (s : State) → NeedsMemory t max s.pc s.words s.heap → asks_in (events_of (act t max items s)) ≡ 0
+needy_asks t max items s needs =
+    ap (λ i. asks_in (events_of (act_on t max items i s))) needs.1 ∙ ap asks_in (needy_events t max items s needs.0 needs.2)
 
 -- how far a run is that began and goes on at these places of a block
 abbrev pub SoFar : Tables → ℕ → ℕ → List ℕ → Words → RunState → ℕ → List ℕ → Words → RunState → Option (List ℕ) → Option (List ℕ) → (ℕ → Item) → ℕ → ℕ → Type 0
@@ -275,7 +377,7 @@ module _ (t r : Tables) (max steps : ℕ) (block0 : List ℕ) (heap0 : Words) (a
       let order : reads + (a + b) ≡ reads + a + b = omega arith in
       rw order (goes_on t max items steps (state_of block0 at0 reads heap0) left (state_of block at (reads + a) heap) (state_of block1 at1 (reads + a + b) heap1) a b old now late g some d))
 
-  pub ends_by : (ending : Ending) → e ≡ Some ending → before ≤ later → (e ≡ Some NoMemory → CallFits r max at.pc (drop at.base block) × Took now late []) → WithAnswers e come0 come1 W (RunAnswers t max steps block0 heap0 at0 block1 heap1 at1 e old late before last)
+  pub ends_by : (ending : Ending) → e ≡ Some ending → before ≤ later → (e ≡ Some NoMemory → NeedsMemory r max at.pc (drop at.base block) heap × Took now late []) → WithAnswers e come0 come1 W (RunAnswers t max steps block0 heap0 at0 block1 heap1 at1 e old late before last)
   ends_by ending is grown memory =
       let one = subst (λ (x : Tables). WithAnswers e come come1 V (StepAnswers x max block heap at block1 heap1 at1 e now late later last)) same did in
       joined e come0 come come1 U V W _ _ (RunAnswers t max steps block0 heap0 at0 block1 heap1 at1 e old late before last) so_far one both
@@ -289,10 +391,10 @@ module _ (t r : Tables) (max steps : ℕ) (block0 : List ℕ) (heap0 : Words) (a
         rw order (subst (λ x. Answers (many (act t max items) steps first) new (a + b) x old late before last) (sym is) answers),
         λ refusal.
             let fits = memory refusal in
-            let call = subst (λ (x : Tables). CallFits x max at.pc (drop at.base block)) same fits.0 in
+            let needs = subst (λ (x : Tables). NeedsMemory x max at.pc (drop at.base block) heap) same fits.0 in
             let by_memory = subst (λ x. Answers (act t max items s) new b x now late later last) refusal d in
-            let none : a + b ≡ a = omega (arith, by_memory.1, call_asks t max items s call) in
-            rw none (refused t max items steps first left s a old now late g some call fits.1),
+            let none : a + b ≡ a = omega (arith, by_memory.1, needy_asks t max items s needs) in
+            rw none (refused t max items steps first left s a old now late g some needs fits.1),
         λ failure.
             let by_write = subst (λ x. Answers (act t max items s) new b x now late later last) failure d in
             unwritten t max items steps first left s a b old now late g some by_write.0,

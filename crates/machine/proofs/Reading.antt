@@ -16,7 +16,7 @@ use Rattle.machine.specs.Answers.{AllNumbers, Answers, Comes, HasFrom, ReadInOrd
 use Rattle.machine.specs.declared.run_state.Next.{Next}
 use Rattle.machine.specs.declared.run_state.RunState.{RunState}
 use Rattle.machine.specs.declared.run_state.Ending.{Ending}
-use Rattle.machine.specs.declared.run_state.Ending.TheVariants.{Exit, Panic, ReadFault, WriteFault, NoMemory, StackLimit, HeapLimit, WildAddress, WildReturn, WildLink}
+use Rattle.machine.specs.declared.run_state.Ending.TheVariants.{Exit, Panic, ReadFault, WriteFault, NoMemory, StackLimit, HeapLimit, WildAddress, WildReturn, WildLink, WildHeader}
 
 has_front : (items : ℕ → Item) (n : ℕ) (a b : List Item) → HasFrom items n (a ++ b) → HasFrom items n a
 has_front items n [] b h = tt
@@ -114,6 +114,7 @@ told_nothing d s (Some (HeapLimit used asked limit)) taken faults c = stops_quie
 told_nothing d s (Some (WildAddress n)) taken faults c = stops_quietly d (WildAddress n) taken c
 told_nothing d s (Some (WildReturn n)) taken faults c = stops_quietly d (WildReturn n) taken c
 told_nothing d s (Some (WildLink n)) taken faults c = stops_quietly d (WildLink n) taken c
+told_nothing d s (Some (WildHeader n)) taken faults c = stops_quietly d (WildHeader n) taken c
 
 -- what comes of a read, and the state that it comes to
 pub item_read : (s new : State) (a : ℕ) (item answer : Item) → item ≡ answer → new.pc ≡ s.pc + 1 → new.words ≡ put_words s.words a (item_words answer) → new.reads ≡ s.reads + 1 → new.heap ≡ s.heap

@@ -1,6 +1,7 @@
 -- Lists of words that a block and its frames are made of.
-use Rattle.std.proofs.Common.{◌≡◌, ℕ, ◌+◌, ◌-◌, ◌<◌, ◌≤◌, List, [], ◌∷◌, ◌++◌, length, take, drop, replicate, get_or, refl, ap, sym, ◌∙◌, arith, append_assoc}
+use Rattle.std.proofs.Common.{◌≡◌, ℕ, ◌+◌, ◌-◌, ◌*◌, ◌%◌, ◌^◌, ◌<◌, ◌≤◌, List, [], ◌∷◌, ◌++◌, length, take, drop, replicate, get_or, refl, ap, sym, ◌∙◌, arith, append_assoc}
 use Rattle.std.specs.Prelude.{slice_index, slice_set}
+use Rattle.std.proofs.Math.Nat.{add-mod-mod}
 use Rattle.std.proofs.Math.Seq.{drop-set-add, get_or-drop}
 use Rattle.std.proofs.lemmas.List.{take-append-drop, drop-append-le, drop-take, drop-drop, drop_at, drop_more, set_at, set-append_right, length-take-le, length-replicate}
 use Rattle.machine.specs.Machine.{put_words, words_at, zeroed, entered}
@@ -13,6 +14,9 @@ slot_written words base a word = drop-set-add base words a word
 
 pub slots_read : (words : List ℕ) (base a count : ℕ) → take count (drop (base + a) words) ≡ words_at (drop base words) a count
 slots_read words base a count = ap (take count) (sym (drop-drop a base words))
+
+pub element_wraps : (first index w : ℕ) → (first + (index * w) % 2 ^ 64) % 2 ^ 64 ≡ (first + index * w) % 2 ^ 64
+element_wraps first index w = add-mod-mod first (index * w) (2 ^ 64)
 
 -- words that are replaced after an index, seen from the index
 pub put_behind : (words put : List ℕ) (base from : ℕ) → base + from ≤ length words → drop base (put_words words (base + from) put) ≡ put_words (drop base words) from put

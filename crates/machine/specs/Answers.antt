@@ -1,5 +1,5 @@
 -- Steps were done with the items that were read, and out took what they print; or a device failed in one, or memory was refused to one.
-use Rattle.std.specs.Prelude.{◌≡◌, ◌≢◌, ℕ, suc, ◌+◌, ◌<◌, ◌≤◌, ⊤, List, [], ◌∷◌, ◌++◌, length, drop, Bool, true, false, Option, Some, None, slice_get, IfSome, FitsSigned}
+use Rattle.std.specs.Prelude.{◌≡◌, ◌≢◌, ◌⊎◌, ℕ, suc, ◌+◌, ◌*◌, ◌<◌, ◌≤◌, ⊤, List, [], ◌∷◌, ◌++◌, length, drop, Bool, true, false, Option, Some, None, Result, Ok, Err, IsTrue, slice_get, slice_index, IfSome, FitsSigned}
 use Rattle.std.specs.Int.{w64}
 use Rattle.outside.specs.Causes.{Rose}
 use Rattle.outside.specs.Items.{Reads, Loses}
@@ -7,12 +7,15 @@ use Rattle.outside.specs.Took.{Took, TookPrefix}
 use Rattle.simulation.specs.Steps.{Goes, Stops, events_of, many}
 use Rattle.heap_bump.specs.Words.{Words}
 use Rattle.isa.specs.Code.{Tables}
-use Rattle.isa.specs.declared.instr.Instr.TheVariants.{Call}
-use Rattle.machine.specs.Machine.{State, Event, Printed, Asked, Item, Does, act, prints, bytes_of, asks_in, frame_of}
+use Rattle.isa.specs.declared.instr.Added.{Added}
+use Rattle.isa.specs.declared.instr.Added.TheVariants.{Slots, Slice as OfSlice}
+use Rattle.isa.specs.declared.instr.Instr.{Instr}
+use Rattle.isa.specs.declared.instr.Instr.TheVariants.{Call, Alloc, Make, Append}
+use Rattle.machine.specs.Machine.{State, Event, Printed, Asked, Item, Does, act, prints, bytes_of, asks_in, frame_of, are_sizes, grown, renews}
 use Rattle.machine.specs.declared.run_state.Next.{Next}
 use Rattle.machine.specs.declared.run_state.RunState.{RunState}
 use Rattle.machine.specs.declared.run_state.Ending.{Ending}
-use Rattle.machine.specs.declared.run_state.Ending.TheVariants.{Exit, ReadFault, WriteFault, NoMemory, WildAddress}
+use Rattle.machine.specs.declared.run_state.Ending.TheVariants.{Exit, ReadFault, WriteFault, NoMemory, HeapLimit, WildAddress}
 
 -- the state whose frame begins at an index of a block of words, where `reads` items were read before, with a heap
 abbrev pub state_of : List ℕ → RunState → ℕ → Words → State
@@ -116,13 +119,53 @@ abbrev pub StatusFits : Option Ending → Type 0
 StatusFits (Some (Exit status)) = status ≤ 125
 StatusFits _ = ⊤
 
--- at a place stands a call whose frame the limit allows below these words
-abbrev pub CallFits : Tables → ℕ → ℕ → List ℕ → Type 0
-CallFits t max pc words = (g : ℕ) × (slice_get t.instrs pc ≡ Some (Call g)) × (length words + frame_of t g ≤ max)
+-- so many words more may be taken of a heap
+abbrev pub Fit : Words → (count : ℕ) → Type 0
+Fit heap count = length heap.words + count ≤ heap.max
 
--- it has no room below an index of the block
+-- a slice has no room for `count` elements of w words more, and the heap has some for the array that it then needs
+abbrev pub GrowthFits : Words → (long capacity count w : ℕ) → Type 0
+GrowthFits heap long capacity count w = (capacity < long + count) × Fit heap (grown (long + count) capacity * w)
+
+-- how many elements an append adds
+abbrev pub added_count : (stack : List ℕ) → Added → (c d : ℕ) → ℕ
+added_count stack Slots c d = d
+added_count stack OfSlice c d = slice_index stack (c + 1)
+
+abbrev pub AppendNeeds : (stack : List ℕ) → Words → Added → (b c d w : ℕ) → Type 0
+AppendNeeds stack heap added b c d w =
+    let long = slice_index stack (b + 1) in let capacity = slice_index stack (b + 2) in
+    IsTrue (are_sizes long capacity) × GrowthFits heap long capacity (added_count stack added c d) w
+
+-- an instruction needs memory, and a limit allows it: a call whose frame the stack may have below its words, and an instruction that
+-- takes words of the heap
+abbrev pub Needs : Tables → (max : ℕ) → (stack : List ℕ) → Words → Instr → Type 0
+Needs t max stack heap (Call g) = length stack + frame_of t g ≤ max
+Needs t max stack heap (Alloc a n site) = Fit heap n
+Needs t max stack heap (Make a w site) = IsTrue (are_sizes (slice_index stack (a + 1)) (slice_index stack (a + 2))) × Fit heap (slice_index stack (a + 2) * w)
+Needs t max stack heap (Append added a b c d w site) = AppendNeeds stack heap added b c d w
+Needs t max stack heap _ = ⊥
+
+-- at a place stands such an instruction
+abbrev pub NeedsMemory : Tables → (max pc : ℕ) → (stack : List ℕ) → Words → Type 0
+NeedsMemory t max pc stack heap = (i : Instr) × (slice_get t.instrs pc ≡ Some i) × Needs t max stack heap i
+
+-- a call there has no room below an index of the block
 abbrev pub NoRoom : Tables → RunState → Type 0
-NoRoom t at = (g : ℕ) × (slice_get t.instrs at.pc ≡ Some (Call g)) × (at.base < frame_of t g)
+NoRoom t at = (g : ℕ) → slice_get t.instrs at.pc ≡ Some (Call g) → at.base < frame_of t g
+
+-- how a run ends that gets no `count` words of a heap
+abbrev pub TakeEnds : Words → (count : ℕ) → Ending → Type 0
+TakeEnds heap count e =
+    ((heap.max < length heap.words + count) × (e ≡ HeapLimit (length heap.words) count heap.max)) ⊎ (Fit heap count × (e ≡ NoMemory))
+
+-- an array was taken and the old elements moved to it, whatever is done then; or the run ends so
+abbrev pub Renewed : (max first long capacity w : ℕ) → (stack : List ℕ) → (heap heap' : Words) → Result ℕ Ending → Type 0
+Renewed max first long capacity w stack heap heap' (Ok at) =
+    (pc reads : ℕ) (does : State → Does)
+    → renews max (record { pc = pc; words = stack; reads = reads; heap = heap }) first long capacity w does ≡ does (record { pc = pc; words = stack; reads = reads; heap = heap' })
+Renewed max first long capacity w stack heap heap' (Err e) =
+    (pc reads : ℕ) (does : State → Does) (s : State) → Comes (renews max (record { pc = pc; words = stack; reads = reads; heap = heap }) first long capacity w does) s (Some e)
 
 -- After `done` steps stands an instruction whose bytes the sink refused in part: out took all that these steps print, and a
 -- front of what the instruction prints. What was read are the items that the steps and the instruction ask for.
@@ -139,15 +182,15 @@ pub record Unwritten (t : Tables) (max : ℕ) (items : ℕ → Item) (steps : �
   pub at_least : asks_in told ≤ answered
   pub at_most : answered ≤ asks_in told + asks_in (events_of (act t max items state))
 
--- after `done` steps, for which `answered` items were read, stands a call that fits, to which memory was refused, and out took
--- what they print
+-- after `done` steps, for which `answered` items were read, stands an instruction to which memory was refused that it needs, and
+-- out took what they print
 pub record Refused (t : Tables) (max : ℕ) (items : ℕ → Item) (steps : ℕ) (first : State) (answered : ℕ) (old new : Option (List ℕ)) : Type 0 where
   pub done : ℕ
   pub before : done < steps
   pub told : List Event
   pub state : State
   pub whole : many (act t max items) done first ≡ Goes told state
-  pub call : CallFits t max state.pc state.words
+  pub needs : NeedsMemory t max state.pc state.words state.heap
   pub asked : asks_in told ≡ answered
   pub took : Took old new (bytes_of told)
 

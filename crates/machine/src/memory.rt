@@ -27,18 +27,26 @@ fn lie_within(low: u64, high: u64, at: u64, n: u64) -> bool
     low <= at && at <= high && n <= high - at
 }
 
-// Where `n` words from an address on lie.
+/// Where `n` words from an address on lie.
 #[inline(always)]
-fn find(heap: &Heap, words: &Vec<u64>, stack_max: u64, base: usize, at: u64, n: u16) -> Spot
+pub(crate) fn find(
+    heap: &Heap,
+    words: &Vec<u64>,
+    stack_max: u64,
+    base: usize,
+    at: u64,
+    n: u64,
+) -> Spot
     requires { (base ≤ length words.now.items) × (length words.now.items ≤ stack_max) × (stack_max ≤ 2 ^ 32) }
     ensures is { result ≡ spot_of stack_max heap.now.words (drop base words.now.items) at n }
     ensures reached { Reached heap.now.words (length words.now.items) base at n result }
+    ensures small { length heap.now.words ≤ 2 ^ 32 }
 {
-    if lie_within(HEAP_LOW, HEAP_LOW + heap.used(), at, n as u64) {
+    if lie_within(HEAP_LOW, HEAP_LOW + heap.used(), at, n) {
         return Spot::InHeap((at - HEAP_LOW) as usize);
     }
     let low = address(stack_max, words.len() - base);
-    if lie_within(low, address(stack_max, 0), at, n as u64) {
+    if lie_within(low, address(stack_max, 0), at, n) {
         return Spot::InStack((at - low) as usize);
     }
     Spot::Nowhere
@@ -75,7 +83,7 @@ fn load_words(
         words.old.items heap.now words.new.items heap.now result }
     ensures length { length words.new.items ≡ length words.old.items }
 {
-    match find(heap, words, stack_max, base, at, n) {
+    match find(heap, words, stack_max, base, at, n as u64) {
         Spot::InHeap(_) => {
             set_slots(words, base, a as usize, heap.words(at, n as usize));
             true
@@ -105,7 +113,7 @@ fn store_words(
         words.old.items heap.old words.new.items heap.new result }
     ensures length { length words.new.items ≡ length words.old.items }
 {
-    match find(heap, words, stack_max, base, at, n) {
+    match find(heap, words, stack_max, base, at, n as u64) {
         Spot::InHeap(_) => {
             heap.put(at, slots(words, base, c as usize, n as usize));
             true

@@ -18,6 +18,14 @@ pub enum Panic {
     NilPointer,
     /// An index, and the length of the array or slice that has no such element.
     IndexOutOfRange { index: i64, length: i64 },
+    /// The upper bound of a slicing, which is not from 0 to the capacity.
+    SliceHigh { high: i64, capacity: i64 },
+    /// The lower bound of a slicing, which is not from 0 to the upper one.
+    SliceLow { low: i64, high: i64 },
+    /// The length of a slice that was to be made, which is not from 0 to 2^40.
+    MakeLength(i64),
+    /// Its capacity, which is not from 0 to 2^40, or is less than the length.
+    MakeCapacity { capacity: i64, length: i64 },
     /// The status of an exit, which is not from 0 to 125.
     ExitCode(i64),
     /// A panic with a string, by its number, with a number, or with a truth value.
@@ -38,12 +46,11 @@ pub enum Ending {
     ReadFault,
     /// The sink failed.
     WriteFault,
-    /// A call needed a larger block of words, and memory for it was refused.
+    /// A call needed a larger block of words, or an instruction words of the heap, and memory for them was refused.
     NoMemory,
     /// A frame would have passed the limit of the stack: the words in use, those asked for, and the limit.
     StackLimit { used: u64, asked: u64, limit: u64 },
-    /// Words would have passed the limit of the heap: those taken, those asked for, and the limit. No step takes words, so
-    /// only what prepares a run meets it.
+    /// Words would have passed the limit of the heap: those taken, those asked for, and the limit.
     HeapLimit { used: u64, asked: u64, limit: u64 },
     /// An incoming word at this address lies past the end of the stack, or the words from this address on that were to be
     /// reached lie neither in the heap nor in the stack.
@@ -52,6 +59,8 @@ pub enum Ending {
     WildReturn(u64),
     /// A return met this link to the frame above, and it was not its frame's.
     WildLink(u64),
+    /// Three words were to be a slice's header, and with this length they are none.
+    WildHeader(u64),
 }
 
 /// Where a run goes on, or how it ended and where.

@@ -7,7 +7,7 @@ ghost use Rattle.machine.specs.Answers.{RunAnswers, StatusFits, WithAnswers};
 ghost use Rattle.machine.specs.declared.run_state.Ending.{Ending};
 
 use crate::code_tables::Tables;
-use crate::steps::step_in_loop;
+use crate::steps::step;
 use crate::{Next, RunState};
 use heap_bump::Heap;
 use isa::Code;
@@ -47,7 +47,7 @@ pub fn run<I: Source, O: Sink>(
     let mut at = at;
     let mut left = steps;
     'steps: while left > 0 {
-        let next = step_in_loop(
+        let next = step(
             alloc, &tables, words, stack_max, heap, at, reader, input, out,
         );
         match next.ending {
@@ -58,7 +58,7 @@ pub fn run<I: Source, O: Sink>(
         if left == 0 {
             return Next { at, ending: None };
         }
-        let after = step_in_loop(
+        let after = step(
             alloc, &tables, words, stack_max, heap, at, reader, input, out,
         );
         match after.ending {

@@ -9,12 +9,14 @@ ghost use Rattle.std.specs.Prelude.{◌≡◌, ◌⊎◌, ◌≢◌, ℕ, List, 
 ghost use Rattle.simulation.specs.Steps.{Stops};
 ghost use Rattle.heap_bump.specs.Words.{Words};
 ghost use Rattle.machine.specs.Machine.{Item, act, reads_item, item_words, put_words, exits_with, prints, truth_bytes, panic_of, address_of, frame_of, owner_of};
-ghost use Rattle.machine.specs.Inside.{Inside};
-ghost use Rattle.machine.specs.Answers.{Answers, StatusFits, CallFits, NoRoom, PrintsAt, WithAnswers, state_of};
+ghost use Rattle.machine.specs.Inside.{Inside, IsRare, Leads, Touches};
+ghost use Rattle.machine.specs.Answers.{Answers, StatusFits, NeedsMemory, NoRoom, PrintsAt, WithAnswers, state_of};
 
+use crate::allocating::{allocate, make};
 use crate::code_tables::Tables;
 use crate::links::{address, call, leave};
 use crate::memory::{index, load, offset, slot_address, store};
+use crate::slices::{append, copy, slice_index, slice_part};
 use crate::slots::{copy_slots, same_slots, set_slot, slot, zero_slots};
 use crate::{Ending, Next, Panic, RunState};
 use heap_bump::Heap;
@@ -202,10 +204,177 @@ fn read_int<I: Source>(
     }
 }
 
-/// Does one instruction, where the stack may have at most `stack_max` words. The place in the answer is that of the next one,
-/// or where the run ended. It stands out
-/// of line: a loop of steps calls it for what is rare.
+// Does an instruction that programs do seldom, which stands at a place. It stands out of line: a loop of steps calls it.
 #[inline(never)]
+fn rare_step<I: Source, O: Sink>(
+    tables: &Tables<'_>,
+    instr: &Instr,
+    words: &mut Vec<u64>,
+    stack_max: u64,
+    heap: &mut Heap,
+    at: RunState,
+    reader: &mut IntReader,
+    input: &mut I,
+    out: &mut O,
+) -> Next
+    requires words { (length words.old.items ≤ stack_max) × (stack_max ≤ 2 ^ 32) }
+    requires inside { Inside tables.now (length words.old.items) at.pc at.base }
+    requires place { (at.pc < length tables.now.instrs) × (length tables.now.instrs < 2 ^ 40) }
+    requires instr { slice_get tables.now.instrs at.pc ≡ Some instr.now }
+    requires touches { Touches tables.now (length words.old.items) at.base instr.now }
+    requires leads { Leads tables.now (length words.old.items) at.pc at.base instr.now }
+    requires rare { IsRare instr.now }
+    ensures step { WithAnswers result.ending (to_come reader.old (I.left input.old)) (to_come reader.new (I.left input.new))
+        ((reader.new ≡ reader.old) × (input.new ≡ input.old))
+        (λ items reads answered. Answers (act tables.now stack_max items (state_of words.old.items at reads heap.old))
+        (state_of words.new.items result.at (reads + answered) heap.new) answered result.ending
+        (O.taken out.old) (O.taken out.new) (O.faults out.old) (O.faults out.new)) }
+    ensures later { O.faults out.old ≤ O.faults out.new }
+    ensures source_later { I.faults input.old ≤ I.faults input.new }
+    ensures read_fault { result.ending ≡ Some Ending.ReadFault → Rose (I.faults input.old) (I.faults input.new) }
+    ensures stays { result.ending ≡ None → Inside tables.now (length words.new.items) result.at.pc result.at.base }
+    ensures length { length words.new.items ≤ stack_max }
+    ensures status { StatusFits result.ending }
+    ensures memory { result.ending ≡ Some Ending.NoMemory → NeedsMemory tables.now stack_max at.pc (drop at.base words.old.items) heap.old
+        × Took (O.taken out.old) (O.taken out.new) [] × (words.new ≡ words.old) × (heap.new ≡ heap.old) }
+    ensures room { result.ending ≡ Some Ending.NoMemory → NoRoom tables.now at }
+{
+    let base = at.base;
+    match *instr {
+        Instr::Zero { a, n } => {
+            zero_slots(words, base, a as usize, n as usize);
+            Next::on(at)
+        }
+        Instr::Same { a, b, c, n } => {
+            let same = same_slots(words, base, b as usize, c as usize, n as usize);
+            set_slot(words, base, a as usize, bit(same));
+            Next::on(at)
+        }
+        Instr::Differ { a, b, c, n } => {
+            let same = same_slots(words, base, b as usize, c as usize, n as usize);
+            set_slot(words, base, a as usize, bit(!same));
+            Next::on(at)
+        }
+        Instr::Un { op, a, b } => {
+            let word = un(op, slot(words, base, b as usize));
+            set_slot(words, base, a as usize, word);
+            Next::on(at)
+        }
+        Instr::Argument { a, b } => {
+            let frame = tables.own_frame(words, at);
+            match incoming(words, stack_max, base, frame, b, 1) {
+                Ok(index) => {
+                    let word = slot(words, base, index);
+                    set_slot(words, base, a as usize, word);
+                    Next::on(at)
+                }
+                Err(ending) => Next::ended(at, ending),
+            }
+        }
+        Instr::Address { a, b } => {
+            let word = slot_address(words, stack_max, base, b);
+            set_slot(words, base, a as usize, word);
+            Next::on(at)
+        }
+        Instr::Offset { a, b, off } => offset(words, at, a, b, off),
+        Instr::Index { a, b, c, len, w } => index(words, at, a, b, c, len, w),
+        Instr::SliceIndex { a, b, c, w } => slice_index(words, at, a, b, c, w),
+        Instr::Slice { a, b, c, w } => slice_part(words, at, a, b, c, w),
+        Instr::Born { a, n, site: _ } => {
+            zero_slots(words, base, a as usize, n as usize);
+            Next::on(at)
+        }
+        Instr::Alloc { a, n, site: _ } => allocate(words, heap, at, a, n as u64),
+        Instr::Make { a, w, site: _ } => make(words, heap, at, a, w),
+        Instr::Append {
+            added,
+            a,
+            b,
+            c,
+            d,
+            w,
+            site: _,
+        } => { append(words, stack_max, heap, at, added, a, b, c, d, w) }
+        Instr::Copy { a, b, c, w } => copy(words, stack_max, heap, at, a, b, c, w),
+        Instr::PrintInt { a } => print_int(words, at, a, out),
+        Instr::PrintBool { a } => print_bool(words, at, a, out),
+        Instr::PrintText { text } => print(words, at, tables.string(text), out),
+        Instr::PrintSpace => print(words, at, b" ", out),
+        Instr::PrintLine => print(words, at, b"\n", out),
+        Instr::ReadInt { a } => read_int(words, at, a, reader, input),
+        Instr::Exit { a } => { Next::ended(at, exit(slot(words, base, a as usize).cast_signed())) }
+        Instr::PanicText { text } => Next::panicked(at, Panic::Text(text)),
+        Instr::PanicInt { a } => Next::panicked(
+            at,
+            Panic::Int(slot(words, base, a as usize).cast_signed()),
+        ),
+        Instr::PanicBool { a } => Next::panicked(
+            at,
+            Panic::Bool(slot(words, base, a as usize) != 0),
+        ),
+        // These are no rare ones.
+        Instr::Const { .. }
+        | Instr::Move { .. }
+        | Instr::MoveWords { .. }
+        | Instr::Bin { .. }
+        | Instr::Jump { .. }
+        | Instr::JumpZero { .. }
+        | Instr::Call { .. }
+        | Instr::ArgumentWords { .. }
+        | Instr::SetResults { .. }
+        | Instr::Load { .. }
+        | Instr::Store { .. }
+        | Instr::Return => unreachable!(),
+    }
+}
+
+// The same. What the call answers in memory is made and read here alone, so that no other instruction writes it.
+#[inline(always)]
+fn rare_step_apart<I: Source, O: Sink>(
+    tables: &Tables<'_>,
+    instr: &Instr,
+    words: &mut Vec<u64>,
+    stack_max: u64,
+    heap: &mut Heap,
+    at: RunState,
+    reader: &mut IntReader,
+    input: &mut I,
+    out: &mut O,
+) -> Next
+    requires words { (length words.old.items ≤ stack_max) × (stack_max ≤ 2 ^ 32) }
+    requires inside { Inside tables.now (length words.old.items) at.pc at.base }
+    requires place { (at.pc < length tables.now.instrs) × (length tables.now.instrs < 2 ^ 40) }
+    requires instr { slice_get tables.now.instrs at.pc ≡ Some instr.now }
+    requires touches { Touches tables.now (length words.old.items) at.base instr.now }
+    requires leads { Leads tables.now (length words.old.items) at.pc at.base instr.now }
+    requires rare { IsRare instr.now }
+    ensures step { WithAnswers result.ending (to_come reader.old (I.left input.old)) (to_come reader.new (I.left input.new))
+        ((reader.new ≡ reader.old) × (input.new ≡ input.old))
+        (λ items reads answered. Answers (act tables.now stack_max items (state_of words.old.items at reads heap.old))
+        (state_of words.new.items result.at (reads + answered) heap.new) answered result.ending
+        (O.taken out.old) (O.taken out.new) (O.faults out.old) (O.faults out.new)) }
+    ensures later { O.faults out.old ≤ O.faults out.new }
+    ensures source_later { I.faults input.old ≤ I.faults input.new }
+    ensures read_fault { result.ending ≡ Some Ending.ReadFault → Rose (I.faults input.old) (I.faults input.new) }
+    ensures stays { result.ending ≡ None → Inside tables.now (length words.new.items) result.at.pc result.at.base }
+    ensures length { length words.new.items ≤ stack_max }
+    ensures status { StatusFits result.ending }
+    ensures memory { result.ending ≡ Some Ending.NoMemory → NeedsMemory tables.now stack_max at.pc (drop at.base words.old.items) heap.old
+        × Took (O.taken out.old) (O.taken out.new) [] × (words.new ≡ words.old) × (heap.new ≡ heap.old) }
+    ensures room { result.ending ≡ Some Ending.NoMemory → NoRoom tables.now at }
+{
+    let next = rare_step(
+        tables, instr, words, stack_max, heap, at, reader, input, out,
+    );
+    Next {
+        at: next.at,
+        ending: next.ending,
+    }
+}
+
+/// Does one instruction, where the stack may have at most `stack_max` words. The place in the answer is that of the next one,
+/// or where the run ended. The instructions that programs do most stand here, so that a loop of steps has its state in registers.
+#[inline(always)]
 pub fn step<I: Source, O: Sink>(
     alloc: Global,
     tables: &Tables<'_>,
@@ -231,204 +400,13 @@ pub fn step<I: Source, O: Sink>(
     ensures stays { result.ending ≡ None → Inside tables.now (length words.new.items) result.at.pc result.at.base }
     ensures length { length words.new.items ≤ stack_max }
     ensures status { StatusFits result.ending }
-    ensures memory { result.ending ≡ Some Ending.NoMemory → CallFits tables.now stack_max at.pc (drop at.base words.old.items)
-        × Took (O.taken out.old) (O.taken out.new) [] × (words.new ≡ words.old) }
+    ensures memory { result.ending ≡ Some Ending.NoMemory → NeedsMemory tables.now stack_max at.pc (drop at.base words.old.items) heap.old
+        × Took (O.taken out.old) (O.taken out.new) [] × (words.new ≡ words.old) × (heap.new ≡ heap.old) }
     ensures room { result.ending ≡ Some Ending.NoMemory → NoRoom tables.now at }
 {
     let base = at.base;
-    match *tables.fetch(words, at) {
-        Instr::Const { a, word } => {
-            set_slot(words, base, a as usize, word);
-            Next::on(at)
-        }
-        Instr::Zero { a, n } => {
-            zero_slots(words, base, a as usize, n as usize);
-            Next::on(at)
-        }
-        Instr::Move { a, b } => {
-            let word = slot(words, base, b as usize);
-            set_slot(words, base, a as usize, word);
-            Next::on(at)
-        }
-        Instr::MoveWords { a, b, n } => {
-            copy_slots(words, base, b as usize, a as usize, n as usize);
-            Next::on(at)
-        }
-        Instr::Same { a, b, c, n } => {
-            let same = same_slots(words, base, b as usize, c as usize, n as usize);
-            set_slot(words, base, a as usize, bit(same));
-            Next::on(at)
-        }
-        Instr::Differ { a, b, c, n } => {
-            let same = same_slots(words, base, b as usize, c as usize, n as usize);
-            set_slot(words, base, a as usize, bit(!same));
-            Next::on(at)
-        }
-        Instr::Bin { op, a, b, c } => {
-            let given = bin(
-                op,
-                slot(words, base, b as usize),
-                slot(words, base, c as usize),
-            );
-            match given {
-                Ok(word) => {
-                    set_slot(words, base, a as usize, word);
-                    Next::on(at)
-                }
-                Err(fault) => Next::panicked(at, panic_of(fault)),
-            }
-        }
-        Instr::Un { op, a, b } => {
-            let word = un(op, slot(words, base, b as usize));
-            set_slot(words, base, a as usize, word);
-            Next::on(at)
-        }
-        Instr::Jump { to } => Next::to(to as usize, base),
-        Instr::JumpZero { a, to } => {
-            if slot(words, base, a as usize) == 0 {
-                Next::to(to as usize, base)
-            } else {
-                Next::on(at)
-            }
-        }
-        Instr::Call { func } => {
-            let frame = tables.own_frame(words, at);
-            let callee = tables.callee(words, base, func);
-            call(alloc, words, stack_max, at, frame, callee)
-        }
-        Instr::Argument { a, b } => {
-            let frame = tables.own_frame(words, at);
-            match incoming(words, stack_max, base, frame, b, 1) {
-                Ok(index) => {
-                    let word = slot(words, base, index);
-                    set_slot(words, base, a as usize, word);
-                    Next::on(at)
-                }
-                Err(ending) => Next::ended(at, ending),
-            }
-        }
-        Instr::ArgumentWords { a, b, n } => {
-            let frame = tables.own_frame(words, at);
-            match incoming(words, stack_max, base, frame, b, n) {
-                Ok(index) => {
-                    copy_slots(words, base, index, a as usize, n as usize);
-                    Next::on(at)
-                }
-                Err(ending) => Next::ended(at, ending),
-            }
-        }
-        Instr::SetResults { a, b, n } => {
-            let frame = tables.own_frame(words, at);
-            match incoming(words, stack_max, base, frame, b, n) {
-                Ok(index) => {
-                    copy_slots(words, base, a as usize, index, n as usize);
-                    Next::on(at)
-                }
-                Err(ending) => Next::ended(at, ending),
-            }
-        }
-        Instr::Load { a, b, off, n } => load(words, stack_max, heap, at, a, b, off, n),
-        Instr::Store { a, off, c, n } => store(words, stack_max, heap, at, a, off, c, n),
-        Instr::Address { a, b } => {
-            let word = slot_address(words, stack_max, base, b);
-            set_slot(words, base, a as usize, word);
-            Next::on(at)
-        }
-        Instr::Offset { a, b, off } => offset(words, at, a, b, off),
-        Instr::Index { a, b, c, len, w } => index(words, at, a, b, c, len, w),
-        Instr::PrintInt { a } => print_int(words, at, a, out),
-        Instr::PrintBool { a } => print_bool(words, at, a, out),
-        Instr::PrintText { text } => print(words, at, tables.string(text), out),
-        Instr::PrintSpace => print(words, at, b" ", out),
-        Instr::PrintLine => print(words, at, b"\n", out),
-        Instr::ReadInt { a } => read_int(words, at, a, reader, input),
-        Instr::Return => leave(tables, words, stack_max, at),
-        Instr::Exit { a } => { Next::ended(at, exit(slot(words, base, a as usize).cast_signed())) }
-        Instr::PanicText { text } => Next::panicked(at, Panic::Text(text)),
-        Instr::PanicInt { a } => Next::panicked(
-            at,
-            Panic::Int(slot(words, base, a as usize).cast_signed()),
-        ),
-        Instr::PanicBool { a } => Next::panicked(
-            at,
-            Panic::Bool(slot(words, base, a as usize) != 0),
-        ),
-    }
-}
-
-// The same. What the call answers in memory is made and read here alone, so that no other instruction writes it.
-#[inline(always)]
-fn step_apart<I: Source, O: Sink>(
-    alloc: Global,
-    tables: &Tables<'_>,
-    words: &mut Vec<u64>,
-    stack_max: u64,
-    heap: &mut Heap,
-    at: RunState,
-    reader: &mut IntReader,
-    input: &mut I,
-    out: &mut O,
-) -> Next
-    requires words { (length words.old.items ≤ stack_max) × (stack_max ≤ 2 ^ 32) }
-    requires inside { Inside tables.now (length words.old.items) at.pc at.base }
-    requires place { (at.pc < length tables.now.instrs) × (length tables.now.instrs < 2 ^ 40) }
-    ensures step { WithAnswers result.ending (to_come reader.old (I.left input.old)) (to_come reader.new (I.left input.new))
-        ((reader.new ≡ reader.old) × (input.new ≡ input.old))
-        (λ items reads answered. Answers (act tables.now stack_max items (state_of words.old.items at reads heap.old))
-        (state_of words.new.items result.at (reads + answered) heap.new) answered result.ending
-        (O.taken out.old) (O.taken out.new) (O.faults out.old) (O.faults out.new)) }
-    ensures later { O.faults out.old ≤ O.faults out.new }
-    ensures source_later { I.faults input.old ≤ I.faults input.new }
-    ensures read_fault { result.ending ≡ Some Ending.ReadFault → Rose (I.faults input.old) (I.faults input.new) }
-    ensures stays { result.ending ≡ None → Inside tables.now (length words.new.items) result.at.pc result.at.base }
-    ensures length { length words.new.items ≤ stack_max }
-    ensures status { StatusFits result.ending }
-    ensures memory { result.ending ≡ Some Ending.NoMemory → CallFits tables.now stack_max at.pc (drop at.base words.old.items)
-        × Took (O.taken out.old) (O.taken out.new) [] × (words.new ≡ words.old) }
-    ensures room { result.ending ≡ Some Ending.NoMemory → NoRoom tables.now at }
-{
-    let next = step(
-        alloc, tables, words, stack_max, heap, at, reader, input, out,
-    );
-    Next {
-        at: next.at,
-        ending: next.ending,
-    }
-}
-
-/// The same, for a loop: the instructions that programs do most stand in it, so that its state has the registers.
-#[inline(always)]
-pub fn step_in_loop<I: Source, O: Sink>(
-    alloc: Global,
-    tables: &Tables<'_>,
-    words: &mut Vec<u64>,
-    stack_max: u64,
-    heap: &mut Heap,
-    at: RunState,
-    reader: &mut IntReader,
-    input: &mut I,
-    out: &mut O,
-) -> Next
-    requires words { (length words.old.items ≤ stack_max) × (stack_max ≤ 2 ^ 32) }
-    requires inside { Inside tables.now (length words.old.items) at.pc at.base }
-    requires place { (at.pc < length tables.now.instrs) × (length tables.now.instrs < 2 ^ 40) }
-    ensures step { WithAnswers result.ending (to_come reader.old (I.left input.old)) (to_come reader.new (I.left input.new))
-        ((reader.new ≡ reader.old) × (input.new ≡ input.old))
-        (λ items reads answered. Answers (act tables.now stack_max items (state_of words.old.items at reads heap.old))
-        (state_of words.new.items result.at (reads + answered) heap.new) answered result.ending
-        (O.taken out.old) (O.taken out.new) (O.faults out.old) (O.faults out.new)) }
-    ensures later { O.faults out.old ≤ O.faults out.new }
-    ensures source_later { I.faults input.old ≤ I.faults input.new }
-    ensures read_fault { result.ending ≡ Some Ending.ReadFault → Rose (I.faults input.old) (I.faults input.new) }
-    ensures stays { result.ending ≡ None → Inside tables.now (length words.new.items) result.at.pc result.at.base }
-    ensures length { length words.new.items ≤ stack_max }
-    ensures status { StatusFits result.ending }
-    ensures memory { result.ending ≡ Some Ending.NoMemory → CallFits tables.now stack_max at.pc (drop at.base words.old.items)
-        × Took (O.taken out.old) (O.taken out.new) [] × (words.new ≡ words.old) }
-    ensures room { result.ending ≡ Some Ending.NoMemory → NoRoom tables.now at }
-{
-    let base = at.base;
-    match *tables.fetch(words, at) {
+    let instr = tables.fetch(words, at);
+    match *instr {
         Instr::Const { a, word } => {
             set_slot(words, base, a as usize, word);
             Next::on(at)
@@ -492,8 +470,8 @@ pub fn step_in_loop<I: Source, O: Sink>(
         Instr::Load { a, b, off, n } => load(words, stack_max, heap, at, a, b, off, n),
         Instr::Store { a, off, c, n } => store(words, stack_max, heap, at, a, off, c, n),
         Instr::Return => leave(tables, words, stack_max, at),
-        _ => step_apart(
-            alloc, tables, words, stack_max, heap, at, reader, input, out,
+        _ => rare_step_apart(
+            tables, instr, words, stack_max, heap, at, reader, input, out,
         ),
     }
 }
