@@ -1,5 +1,5 @@
 -- Expressions side by side: where each gives something, their values are decided.
-use Rattle.std.proofs.Common.{◌≡◌, ℕ, zero, suc, Bool, true, false, cond, List, [], ◌∷◌, ◌⊎◌, inl, inr, Option, Some, None, refl, sym, ap, ◌∙◌, length, take, arith, subst}
+use Rattle.std.proofs.Common.{◌≡◌, ℕ, zero, suc, Bool, true, false, cond, List, [], ◌∷◌, ◌⊎◌, inl, inr, Option, Some, None, refl, sym, ap, ◌∙◌, length, arith, subst}
 use Rattle.std.specs.Prelude.{⊤, option_and_then, is_some, is_none, nat_le, ◌≤◌, not, ◌&&◌, ◌==◌}
 use Rattle.std.specs.Option.{option_map}
 use Rattle.std.proofs.lemmas.Bool.{eqb-true, leb-true}
@@ -21,10 +21,12 @@ use Rattle.operators.specs.ConstantFaults.{constant_range_fault}
 use Rattle.type_faults.proofs.Decided.{Decided, Tested, further, mapped, after, both_tested, same, turned}
 use Rattle.type_faults.proofs.Options.{and_then_some, map_some, none_some, same_some}
 use Rattle.operators.specs.Operands.{Operand, constant, value, nil, type_of, constant_value, as_value}
+use Rattle.expression_types.specs.declared.wants.Wanted.{Wanted}
+use Rattle.expression_types.specs.declared.wants.Wanted.TheVariants as wants
 use Rattle.expression_types.specs.Typing.{Part, valued, Gives, one, called, asking, quoted, printed, panicked, exited, Seen, Many, single, operand_in, value_in, type_in_one, shown_type, shown_of, as_part, part_in, is_part, listed, values, parts, are_single, are_parts, is_shown, are_shown, part_count, many_in, many, count_of, count, each, types_agree, values_agree, fits_with, fits, all_values, taken, types_with, value_types, single_types, taken_types, panicked_with, exit_places, exited_with}
-use Rattle.expression_types.specs.Faults.{single_fault, part_fault, SinglesFail, PartsFail, ValuesFail, range_fault, RangeFails, TypesFail, results_fault, MismatchFails, CountFails, TakeFails, refused_fault, shown_fault, PrintFails}
+use Rattle.expression_types.specs.Faults.{single_fault, part_fault, SinglesFail, PartsFail, ValuesFail, range_fault, RangeFails, SidesFail, placed_range_fault, TypesFail, results_fault, MismatchFails, CountFails, TakeFails, refused_fault, shown_fault, PrintFails}
 use Rattle.type_faults.proofs.Lists.{and_true}
-use Rattle.expression_types.proofs.Places.{agree_tested}
+use Rattle.expression_types.proofs.Places.{Asks, AllAsk, agree_tested}
 
 -- one value of what is given
 pub single_decided : (g : Gives) → Decided (single g) (IsFault (single_fault (Some g)))
@@ -252,11 +254,23 @@ printed_tested own os all = by (are_parts os) (are_shown os) (parts_tested os al
 
 -- ---- values at places
 
-take_whole : {A : Type 0} (n : ℕ) (xs : List A) → length xs ≡ n → take n xs ≡ xs
-take_whole zero [] is = refl
-take_whole zero (x ∷ xs) is = absurd (omega (arith, is))
-take_whole (suc n) [] is = refl
-take_whole (suc n) (x ∷ xs) is = ap (λ l. x ∷ l) (take_whole n xs (omega (arith, is)))
+-- where each place has a rule, and its own expression, no value is passed over that is none by itself
+range_at : (p : Wanted) (at : Pos) (x : Option Operand) → Asks p → placed_range_fault p at x ≡ range_fault at x
+range_at wants.Own at x asks = refl
+range_at (wants.Typed t) at x asks = refl
+range_at wants.Unknown at x asks = absurd asks
+
+ranges_in : (ps : List Wanted) (os : List Seen) → AllAsk ps → (f : Fault) → SidesFail placed_range_fault ps os f → RangeFails os f
+ranges_in [] os asks f h = absurd h
+ranges_in (p ∷ ps) [] asks f h = absurd h
+ranges_in (p ∷ ps) (o ∷ os) asks f (inl h) = inl (subst (λ (r : Option Fault). IsFault r f) (range_at p o.at (operand_in o.gives) asks.0) h)
+ranges_in (p ∷ ps) (o ∷ os) asks f (inr h) = inr (ranges_in ps os asks.1 f h)
+
+pub ranges_placed : (ps : List Wanted) (os : List Seen) → AllAsk ps → length os ≡ length ps → (f : Fault) → RangeFails os f → SidesFail placed_range_fault ps os f
+ranges_placed ps [] asks long f h = absurd h
+ranges_placed [] (o ∷ os) asks long f h = absurd (omega (arith, long))
+ranges_placed (p ∷ ps) (o ∷ os) asks long f (inl h) = inl (subst (λ (r : Option Fault). IsFault r f) (sym (range_at p o.at (operand_in o.gives) asks.0)) h)
+ranges_placed (p ∷ ps) (o ∷ os) asks long f (inr h) = inr (ranges_placed ps os asks.1 (omega (arith, long)) f h)
 
 -- a call with more than one value is no single value
 pub many_single : (o : Option Gives) (m : Many) → many_in o ≡ Some m → operand_in o ≡ None
@@ -271,16 +285,21 @@ many_single (Some (called place [] k es)) m is = refl
 many_single (Some (called place (t ∷ []) k es)) m is = absurd (none_some is)
 many_single (Some (called place (t ∷ u ∷ ts) k es)) m is = refl
 
-many_ranges : (n : ℕ) (os : List Seen) (m : Many) → many os ≡ Some m → (f : Fault) → RangeFails (take n os) f → ⊥
-many_ranges n [] m is f h = cc is
-many_ranges zero (o ∷ []) m is f h = h
-many_ranges (suc n) (o ∷ []) m is f (inl h) = subst (λ (x : Option Operand). IsFault (range_fault o.at x) f) (many_single o.gives m is) h
-many_ranges (suc n) (o ∷ []) m is f (inr h) = nothing_in n h
+many_ranges : (ps : List Wanted) (os : List Seen) (m : Many) → many os ≡ Some m → (f : Fault) → SidesFail placed_range_fault ps os f → ⊥
+many_ranges [] os m is f h = h
+many_ranges (p ∷ ps) [] m is f h = h
+many_ranges (p ∷ ps) (o ∷ []) m is f (inl h) = no_operand p (subst (λ (x : Option Operand). IsFault (placed_range_fault p o.at x) f) (many_single o.gives m is) h)
   where
-    nothing_in : (k : ℕ) → RangeFails (take k []) f → ⊥
-    nothing_in zero h1 = h1
-    nothing_in (suc k) h1 = h1
-many_ranges n (o ∷ p ∷ os) m is f h = cc is
+    no_operand : (q : Wanted) → IsFault (placed_range_fault q o.at None) f → ⊥
+    no_operand wants.Own h1 = h1
+    no_operand (wants.Typed t) h1 = h1
+    no_operand wants.Unknown h1 = h1
+many_ranges (p ∷ ps) (o ∷ []) m is f (inr h) = nothing_in ps h
+  where
+    nothing_in : (qs : List Wanted) → SidesFail placed_range_fault qs [] f → ⊥
+    nothing_in [] h1 = h1
+    nothing_in (q ∷ qs) h1 = h1
+many_ranges (p ∷ ps) (o ∷ q ∷ os) m is f h = cc is
 
 -- values are of another number, or there are as many
 counted : (m n : ℕ) (own : Fault) → Tested (m == n) (CountFails (Some m) n own)
@@ -290,7 +309,7 @@ counted m n own = by (m == n)
     by true = λ f h. h
     by false = (own, refl)
 
-results_tested : (ps : List (Option ValueType)) (m : Many) → Tested (types_agree ps m.types) (IsFault (results_fault ps m))
+results_tested : (ps : List Wanted) (m : Many) → Tested (types_agree ps m.types) (IsFault (results_fault ps m))
 results_tested ps m = by (types_agree ps m.types)
   where
     by : (b : Bool) → Tested b (IsFault (cond b None (Some (fault Mismatch m.at))))
@@ -303,9 +322,9 @@ two_tested P Q false b p q = (p.0, inr p.1)
 two_tested P Q true false p q = (q.0, inl q.1)
 two_tested P Q true true p q = λ f h. elim h [ inl k ↦ q f k | inr k ↦ p f k ]
 
-module _ (own : Fault) (ps : List (Option ValueType)) (os : List Seen) (all : AllGiven os) where
+module _ (own : Fault) (ps : List Wanted) (os : List Seen) (asks : AllAsk ps) (all : AllGiven os) where
   abbrev Takes : Option Many → Option ℕ → Fault → Type 0
-  Takes m k f = ((ValuesFail m os f ⊎ RangeFails (take (length ps) os) f) ⊎ MismatchFails ps os m f) ⊎ CountFails k (length ps) own f
+  Takes m k f = ((ValuesFail m os f ⊎ SidesFail placed_range_fault ps os f) ⊎ MismatchFails ps os m f) ⊎ CountFails k (length ps) own f
 
   -- a test that says more than a rule that nothing else fails
   test_then : {A : Type 0} (b : Bool) (o : Option A) (V T : Fault → Type 0) → Tested b T → (b ≡ true → Decided o V) → Decided (allowed b o) (λ f. V f ⊎ T f)
@@ -322,14 +341,14 @@ module _ (own : Fault) (ps : List (Option ValueType)) (os : List Seen) (all : Al
 
   of_many : (m : Many) → many os ≡ Some m → Decided (allowed (fits_with ps os (Some m)) (all_values os (Some m))) (Takes (Some m) (Some (length m.types)))
   of_many m is =
-      let V = λ (f : Fault). ValuesFail (Some m) os f ⊎ RangeFails (take (length ps) os) f in
+      let V = λ (f : Fault). ValuesFail (Some m) os f ⊎ SidesFail placed_range_fault ps os f in
       let M = IsFault (results_fault ps m) in
       let C = CountFails (Some (length m.types)) (length ps) own in
       let n = length m.types == length ps in
       regroup V M C (allowed (n && types_agree ps m.types) (all_values os (Some m)))
       (test_then (n && types_agree ps m.types) (all_values os (Some m)) V (λ f. M f ⊎ C f)
       (two_tested C M n (types_agree ps m.types) (counted (length m.types) (length ps) own) (results_tested ps m))
-      (λ e f h. elim h [ inl v ↦ v | inr r ↦ many_ranges (length ps) os m is f r ]))
+      (λ e f h. elim h [ inl v ↦ v | inr r ↦ many_ranges ps os m is f r ]))
 
   same_long : (b c : Bool) → (b && c) ≡ true → b ≡ true
   same_long true c is = refl
@@ -338,7 +357,7 @@ module _ (own : Fault) (ps : List (Option ValueType)) (os : List Seen) (all : Al
   -- each has one value
   of_singles : are_single os ≡ true → ((f : Fault) → SinglesFail os f → ⊥) → Decided (allowed (fits_with ps os None) (all_values os None)) (Takes None (Some (length os)))
   of_singles are none =
-      let V = λ (f : Fault). SinglesFail os f ⊎ RangeFails (take (length ps) os) f in
+      let V = λ (f : Fault). SinglesFail os f ⊎ SidesFail placed_range_fault ps os f in
       let M = TypesFail ps os in
       let C = CountFails (Some (length os)) (length ps) own in
       let n = length os == length ps in
@@ -346,9 +365,10 @@ module _ (own : Fault) (ps : List (Option ValueType)) (os : List Seen) (all : Al
       (test_then (n && values_agree ps os) (option_map each (values os)) V (λ f. M f ⊎ C f)
       (two_tested C M n (values_agree ps os) (counted (length os) (length ps) own) (agree_tested ps os))
       (λ e.
-      let whole : take (length ps) os ≡ os = take_whole (length ps) os (eqb-true (length os) (length ps) (same_long n (values_agree ps os) e)) in
-      further (SinglesFail os) (RangeFails (take (length ps) os)) (option_map each (values os)) none
-      (mapped each (values os) (RangeFails (take (length ps) os)) (subst (λ (l : List Seen). Decided (values os) (RangeFails l)) (sym whole) (ranges_decided value_in are_single value_form os are)))))
+      let long = eqb-true (length os) (length ps) (same_long n (values_agree ps os) e) in
+      let R = SidesFail placed_range_fault ps os in
+      further (SinglesFail os) R (option_map each (values os)) none
+      (mapped each (values os) R (same (RangeFails os) R (values os) (ranges_placed ps os asks long) (ranges_in ps os asks) (ranges_decided value_in are_single value_form os are)))))
 
   of_none : (b : Bool) → are_single os ≡ b → Tested b (SinglesFail os) → Decided (allowed (fits_with ps os None) (all_values os None)) (Takes None (cond b (Some (length os)) None))
   of_none true is t = of_singles is t
@@ -417,7 +437,7 @@ no_many (o ∷ []) is = by o.gives is
     by (Some x) e = cc e
 no_many (o ∷ p ∷ os) is = refl
 
-no_values : (ps : List (Option ValueType)) (os : List Seen) → given_all os ≡ None → taken ps os ≡ None
+no_values : (ps : List Wanted) (os : List Seen) → given_all os ≡ None → taken ps os ≡ None
 no_values ps os is =
     ap (λ (m : Option Many). allowed (fits_with ps os m) (all_values os m)) (no_many os is) ∙ by (fits_with ps os None) (values os) (no_list value_in are_single value_form os (not_single os is))
   where
@@ -518,18 +538,18 @@ read_taken at os = by (fits [] os) refl
 
 -- what each gives is decided by rules, so the values are
 module _ (os : List Seen) (P : Fault → Type 0) (d : Decided (given_all os) P) where
-  pub take_decided : (own : Fault) (ps : List (Option ValueType)) → Decided (taken ps os) (λ f. P f ⊎ TakeFails own ps os f)
-  take_decided own ps = by (given_all os) refl d
+  pub take_decided : (own : Fault) (ps : List Wanted) → AllAsk ps → Decided (taken ps os) (λ f. P f ⊎ TakeFails own ps os f)
+  take_decided own ps asks = by (given_all os) refl d
     where
       by : (g : Option (Unit {0})) → given_all os ≡ g → Decided g P → Decided (taken ps os) (λ f. P f ⊎ TakeFails own ps os f)
       by None is p = decided_none (taken ps os) (λ f. P f ⊎ TakeFails own ps os f) p.0 (no_values ps os is) (inl p.1)
-      by (Some u) is p = further P (TakeFails own ps os) (taken ps os) p (taken_decided own ps os (given os is))
+      by (Some u) is p = further P (TakeFails own ps os) (taken ps os) p (taken_decided own ps os asks (given os is))
 
   pub read_decided : (at : Pos) (own : Fault) → Decided (allowed (fits [] os) (Some (asking at))) (λ f. P f ⊎ TakeFails own [] os f)
-  read_decided at own = alike_decided (taken [] os) _ (λ f. P f ⊎ TakeFails own [] os f) (read_taken at os) (take_decided own [])
+  read_decided at own = alike_decided (taken [] os) _ (λ f. P f ⊎ TakeFails own [] os f) (read_taken at os) (take_decided own [] tt)
 
   pub exit_decided : (at : Pos) (own : Fault) → Decided (option_and_then (exited_with at) (allowed (fits exit_places os) (values os))) (λ f. P f ⊎ TakeFails own exit_places os f)
-  exit_decided at own = alike_decided (taken exit_places os) _ (λ f. P f ⊎ TakeFails own exit_places os f) (exit_taken at os) (take_decided own exit_places)
+  exit_decided at own = alike_decided (taken exit_places os) _ (λ f. P f ⊎ TakeFails own exit_places os f) (exit_taken at os) (take_decided own exit_places (tt, tt))
 
   pub print_decided : (at : Pos) → Decided (parts os) (λ f. P f ⊎ PrintFails at os f)
   print_decided at = by (given_all os) refl d
@@ -620,7 +640,7 @@ and_false true = refl
 and_false false = refl
 
 -- there are values at the places where they fit and no number is out of range
-pub types_taken : (ps : List (Option ValueType)) (os : List Seen) (r : Option Fault) → IsLeast (RangeFails os) r → cond (is_none r && fits ps os) (value_types os) None ≡ taken_types ps os
+pub types_taken : (ps : List Wanted) (os : List Seen) (r : Option Fault) → IsLeast (RangeFails os) r → cond (is_none r && fits ps os) (value_types os) None ≡ taken_types ps os
 types_taken ps os r least = by (many os) refl (fits ps os)
   where
     of_decided : (v : Option (List Ex)) (q : Option Fault) (t : Option (List ValueType)) → Decided v (RangeFails os) → IsLeast (RangeFails os) q → cond (is_none q) t None ≡ option_and_then (λ es. t) (option_map each v)

@@ -56,6 +56,8 @@ use Rattle.names.specs.declared.scope.Known.{Known}
 use Rattle.names.specs.declared.scope.Known.TheVariants as known_as
 use Rattle.names.proofs.Settled.{IsSound, AreSound}
 use Rattle.names.proofs.Trees.{int_tree, bool_tree, solid}
+use Rattle.expression_types.specs.declared.wants.Wanted.{Wanted}
+use Rattle.expression_types.specs.declared.wants.Wanted.TheVariants as wants
 use Rattle.expression_types.specs.Typing.{Part, said, valued, Gives, one, called, asking, quoted, printed, panicked, exited, known_type, global_read, constant_read, name_operand, prefix_gives, pair_gives, single, operand_in, value_in, shown_type, shown_of, as_part, part_in, Seen, values, parts, type_in_one, single_types, Many, many_in, many, types_with, value_types, accepts, types_agree, accepts_operand, operand_agrees, values_agree, each, fits_with, fits, all_values, taken, asked, Callee, printer, panicker, reader, exiter, function, conversion, no_function, no_spread, no_text_spread, nothing, function_with, callee_declared, callee_value, spread_over, panicked_with, exit_places, exited_with, called_with, as_condition, callee, gives, seen, condition, test}
 use Rattle.expression_types.proofs.DecidedValues.{many_single}
 
@@ -85,10 +87,11 @@ abbrev pub AreShown : Scope → List ℕ → Type 0
 AreShown s scope = (n : List ℕ) (site : SiteId) (t : ValueType) → declaration s n ≡ Some (declared.Variable site t) → InScope site.0 scope × HasSite s site.0 t
 
 -- values of these types are taken at these places
-abbrev pub AreAccepted : List (Option ValueType) → List ValueType → Type 0
+abbrev pub AreAccepted : List Wanted → List ValueType → Type 0
 AreAccepted [] [] = Unit {0}
-AreAccepted (None ∷ ps) (t ∷ ts) = AreAccepted ps ts
-AreAccepted (Some s ∷ ps) (t ∷ ts) = (s ≡ t) × AreAccepted ps ts
+AreAccepted (wants.Own ∷ ps) (t ∷ ts) = AreAccepted ps ts
+AreAccepted (wants.Typed s ∷ ps) (t ∷ ts) = (s ≡ t) × AreAccepted ps ts
+AreAccepted (wants.Unknown ∷ ps) (t ∷ ts) = AreAccepted ps ts
 AreAccepted ps ts = ⊥
 
 both_true : (a b : Bool) → (a && b) ≡ true → (a ≡ true) × (b ≡ true)
@@ -99,17 +102,19 @@ allowed_some : {A : Type 0} (b : Bool) (o : Option A) (x : A) → allowed b o �
 allowed_some true o x is = (refl, is)
 allowed_some false o x is = absurd (none_some is)
 
-accepted_all : (ps : List (Option ValueType)) (ts : List ValueType) → length ts ≡ length ps → types_agree ps ts ≡ true → AreAccepted ps ts
+accepted_all : (ps : List Wanted) (ts : List ValueType) → length ts ≡ length ps → types_agree ps ts ≡ true → AreAccepted ps ts
 accepted_all [] [] long is = tt
 accepted_all [] (t ∷ ts) long is = absurd (omega (arith, long))
 accepted_all (p ∷ ps) [] long is = absurd (omega (arith, long))
-accepted_all (None ∷ ps) (t ∷ ts) long is = accepted_all ps ts (omega (arith, long)) is
-accepted_all (Some s ∷ ps) (t ∷ ts) long is =
+accepted_all (wants.Own ∷ ps) (t ∷ ts) long is = accepted_all ps ts (omega (arith, long)) is
+accepted_all (wants.Unknown ∷ ps) (t ∷ ts) long is = accepted_all ps ts (omega (arith, long)) is
+accepted_all (wants.Typed s ∷ ps) (t ∷ ts) long is =
     let k = both_true (same_type s t) (types_agree ps ts) is in (same_is s t k.0, accepted_all ps ts (omega (arith, long)) k.1)
 
-accepted_one : (q : Option ValueType) (t : ValueType) (ps : List (Option ValueType)) (ts : List ValueType) → accepts q t ≡ true → AreAccepted ps ts → AreAccepted (q ∷ ps) (t ∷ ts)
-accepted_one None t ps ts is all = all
-accepted_one (Some s) t ps ts is all = (same_is s t is, all)
+accepted_one : (q : Wanted) (t : ValueType) (ps : List Wanted) (ts : List ValueType) → accepts q t ≡ true → AreAccepted ps ts → AreAccepted (q ∷ ps) (t ∷ ts)
+accepted_one wants.Own t ps ts is all = all
+accepted_one wants.Unknown t ps ts is all = all
+accepted_one (wants.Typed s) t ps ts is all = (same_is s t is, all)
 
 -- what is a value has a type
 pub typed_value : (x : Operand) (e : Ex) → as_value x ≡ Some e → (t : ValueType) × (type_of x ≡ Some t)
@@ -117,13 +122,14 @@ typed_value (constant f) e is = (constant_type f.value_type f.value, refl)
 typed_value (value t y) e is = (t, refl)
 typed_value nil e is = absurd (none_some is)
 
-taken_accepted : (q : Option ValueType) (x : Operand) (t : ValueType) → type_of x ≡ Some t → accepts_operand q x ≡ true → accepts q t ≡ true
-taken_accepted None x t typed is = refl
-taken_accepted (Some s) (constant f) t typed is = ap (same_type s) (sym (same_some typed)) ∙ is
-taken_accepted (Some s) (value u y) t typed is = ap (same_type s) (sym (same_some typed)) ∙ is
-taken_accepted (Some s) nil t typed is = absurd (none_some typed)
+taken_accepted : (q : Wanted) (x : Operand) (t : ValueType) → type_of x ≡ Some t → accepts_operand q x ≡ true → accepts q t ≡ true
+taken_accepted wants.Own x t typed is = refl
+taken_accepted wants.Unknown x t typed is = refl
+taken_accepted (wants.Typed s) (constant f) t typed is = ap (same_type s) (sym (same_some typed)) ∙ is
+taken_accepted (wants.Typed s) (value u y) t typed is = ap (same_type s) (sym (same_some typed)) ∙ is
+taken_accepted (wants.Typed s) nil t typed is = absurd (none_some typed)
 
-agrees_some : (q : Option ValueType) (o : Option Operand) (x : Operand) (t : ValueType) → o ≡ Some x → type_of x ≡ Some t → operand_agrees q o ≡ true → accepts q t ≡ true
+agrees_some : (q : Wanted) (o : Option Operand) (x : Operand) (t : ValueType) → o ≡ Some x → type_of x ≡ Some t → operand_agrees q o ≡ true → accepts q t ≡ true
 agrees_some q None x t found typed is = absurd (none_some found)
 agrees_some q (Some y) x t found typed is = taken_accepted q x t typed (ap (accepts_operand q) (sym (same_some found)) ∙ is)
 
@@ -239,14 +245,14 @@ module _ (T : Table) (p : Program) (scope : List ℕ) where
   operand_fits (Some g) x fits is = single_fits g x fits is
 
   -- the values that there are, with their types
-  record Valued (ps : List (Option ValueType)) (os : List Seen) (xs : List Ex) : Type 0 where
+  record Valued (ps : List Wanted) (os : List Seen) (xs : List Ex) : Type 0 where
     types : List ValueType
     found : single_types os ≡ Some types
     accepted : AreAccepted ps types
     fit : ExsFit p scope (type_trees T types) (each xs)
 
   -- values at these places: of types that these take
-  pub record TakenFit (ps : List (Option ValueType)) (os : List Seen) (es : Exs) : Type 0 where
+  pub record TakenFit (ps : List Wanted) (os : List Seen) (es : Exs) : Type 0 where
     pub types : List ValueType
     pub found : value_types os ≡ Some types
     pub accepted : AreAccepted ps types
@@ -332,7 +338,7 @@ module _ (T : Table) (p : Program) (scope : List ℕ) where
 
     -- ---- values at places
 
-    values_fit : (ps : List (Option ValueType)) (os : List Seen) (xs : List Ex) → AllFit os → length os ≡ length ps → values_agree ps os ≡ true → values os ≡ Some xs → Valued ps os xs
+    values_fit : (ps : List Wanted) (os : List Seen) (xs : List Ex) → AllFit os → length os ≡ length ps → values_agree ps os ≡ true → values os ≡ Some xs → Valued ps os xs
     values_fit [] [] xs all long agree is = subst (λ (l : List Ex). Valued [] [] l) (same_some is) (record { types = []; found = refl; accepted = tt; fit = tt })
     values_fit (q ∷ ps) [] xs all long agree is = absurd (omega (arith, long))
     values_fit [] (o ∷ os) xs all long agree is = absurd (omega (arith, long))
@@ -405,7 +411,7 @@ module _ (T : Table) (p : Program) (scope : List ℕ) where
     many_all (o ∷ []) m all is = many_fits o.gives m all.0 is
     many_all (o ∷ q ∷ os) m all is = absurd (none_some is)
 
-    pub taken_fits : (ps : List (Option ValueType)) (os : List Seen) (es : Exs) → AllFit os → taken ps os ≡ Some es → TakenFit ps os es
+    pub taken_fits : (ps : List Wanted) (os : List Seen) (es : Exs) → AllFit os → taken ps os ≡ Some es → TakenFit ps os es
     taken_fits ps os es all is = by (many os) refl is
       where
         of_many : (m : Many) → many os ≡ Some m → fits_with ps os (Some m) ≡ true → m.values ≡ es → TakenFit ps os es
@@ -512,7 +518,7 @@ module _ (T : Table) (p : Program) (scope : List ℕ) where
     call_fits at (function f ps ts) os g k all is =
         let r = map_some (called at ts f) (taken ps os) g is in
         let t = taken_fits ps os r.0 all r.1 in
-        let same1 : k.1 ≡ t.types = asked_types k.1 t.types (subst (λ (l : List (Option ValueType)). AreAccepted l t.types) k.2 t.accepted) in
+        let same1 : k.1 ≡ t.types = asked_types k.1 t.types (subst (λ (l : List Wanted). AreAccepted l t.types) k.2 t.accepted) in
         subst GivesFit r.2 (k.0, k.3, k.5, subst (λ (l : List TypeTree). ExsFit p scope l r.0) (ap (type_trees T) (sym same1) ∙ sym k.4) t.fit)
     call_fits at conversion os g k all is = absurd (none_some is)
     call_fits at no_function os g k all is = absurd (none_some is)
@@ -537,7 +543,9 @@ module _ (p : Program) (scope : List ℕ) (text : List ℕ) (s : Scope) (are_sho
 
   global_fits : (g k : ℕ) (o : Option Known) (x : Gives) → known s k ≡ o → slice_get s.globals g ≡ Some k → option_map one (option_map (global_read g) o) ≡ Some x → Fits x
   global_fits g k None x known_is at is = absurd (none_some is)
-  global_fits g k (Some y) x known_is at is = subst Fits (same_some is) (agrees.globals g k y at known_is)
+  global_fits g k (Some y) x known_is at is =
+      let a = agrees.globals g k y at known_is in
+      subst Fits (same_some is) (a.0, a.1, solid s.types agrees.formed (type_number s.types (known_type y)))
 
   name_fits : (d : Option Declared) (g : Gives) → ((site : SiteId) (t : ValueType) → d ≡ Some (declared.Variable site t) → PlFits p scope (type_tree s.types t) (typed.local site.0 typed.here))
       → ((k : ValueId) (h : GlobalId) → d ≡ Some (declared.Global k h) → slice_get s.globals h.0 ≡ Some k.0) → option_map one (name_operand s d) ≡ Some g → Fits g

@@ -36,6 +36,7 @@ use Rattle.names.proofs.Settled.{HasSignature, IsKnown, IsTyped, IsSettled, decl
 use Rattle.expression_types.specs.Typing.{Gives, one, global_read, constant_read, name_operand, prefix_gives, operand_in, Seen, parts, taken, Callee, printer, panicker, reader, exiter, function, conversion, no_function, no_spread, no_text_spread, nothing, function_with, callee_declared, callee_value, spread_over, called_with, as_condition, callee, gives, seen, condition, test}
 use Rattle.expression_types.specs.Faults.{WhereTaken, name_fault, callee_name_fault, single_fault, literal_fault, condition_fault, PrintFails, CallFails, CalleeFails, Fails, FailsInEach, FailsAsOperand, FailsInCondition, FailsInTest}
 use Rattle.expression_types.proofs.Held.{operand_held}
+use Rattle.expression_types.proofs.Places.{AllAsk, asked_ask}
 use Rattle.expression_types.proofs.DecidedValues.{operand_decided, given_all, take_decided, print_decided, panic_decided, read_decided, exit_decided, refused, parts_refused}
 
 -- ---- numbers and conditions
@@ -126,7 +127,7 @@ CalleeIs (printer line) C = (f : Fault) → C f → ⊥
 CalleeIs panicker C = (f : Fault) → C f → ⊥
 CalleeIs reader C = (f : Fault) → C f → ⊥
 CalleeIs exiter C = (f : Fault) → C f → ⊥
-CalleeIs (function g ps ts) C = (f : Fault) → C f → ⊥
+CalleeIs (function g ps ts) C = AllAsk ps × ((f : Fault) → C f → ⊥)
 CalleeIs conversion C = Unit {0}
 CalleeIs no_function C = (f : Fault) → C f → ⊥
 CalleeIs no_spread C = (f : Fault) → C f → ⊥
@@ -138,7 +139,7 @@ callee_value_is (Some x) P d = d
 
 callee_function_is : (f : ℕ) (sig : Option Signature) (C : Fault → Type 0) → HasSignature sig → ((g : Fault) → C g → ⊥) → CalleeIs (function_with f sig) C
 callee_function_is f None C has none = absurd has
-callee_function_is f (Some sig) C has none = none
+callee_function_is f (Some sig) C has none = (asked_ask sig.params, none)
 
 callee_constant_is : (o : Option Known) (C : Fault → Type 0) → IsKnown o → ((g : Fault) → C g → ⊥) → CalleeIs (callee_value (option_map constant_read o)) C
 callee_constant_is None C has none = absurd has
@@ -172,7 +173,7 @@ spread_is true (printer line) C is = is
 spread_is true panicker C is = is
 spread_is true reader C is = is
 spread_is true exiter C is = is
-spread_is true (function f ps ts) C is = is
+spread_is true (function f ps ts) C is = is.1
 spread_is true conversion C is = is
 spread_is true no_function C is = is
 spread_is true no_spread C is = is
@@ -198,8 +199,8 @@ call_decided at panicker os C E c e = with_callee C E (CallFails at panicker os)
 call_decided at reader os C E c e = with_callee C E (CallFails at reader os) (called_with at reader os) c (read_decided os E e at (fault WrongCount at))
 call_decided at exiter os C E c e = with_callee C E (CallFails at exiter os) (called_with at exiter os) c (exit_decided os E e at (fault WrongCount at))
 call_decided at (function g ps ts) os C E c e =
-    with_callee C E (CallFails at (function g ps ts) os) (called_with at (function g ps ts) os) c
-    (mapped _ (taken ps os) (λ f. E f ⊎ CallFails at (function g ps ts) os f) (take_decided os E e _ ps))
+    with_callee C E (CallFails at (function g ps ts) os) (called_with at (function g ps ts) os) c.1
+    (mapped _ (taken ps os) (λ f. E f ⊎ CallFails at (function g ps ts) os f) (take_decided os E e _ ps c.0))
 call_decided at conversion os C E c e = (fault OutOfProfile at, inr refl)
 call_decided at no_function os C E c e = let u = refused os E e (fault NotCallable at) in (u.0, refused_call C E (CallFails at no_function os) u.0 u.1)
 call_decided at no_spread os C E c e = let u = refused os E e (fault Unfit at) in (u.0, refused_call C E (CallFails at no_spread os) u.0 u.1)

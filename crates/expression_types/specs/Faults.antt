@@ -4,7 +4,7 @@
 -- A form that is left out of the profile fails at its first byte, and has no other rule of its own. The part that begins at the same byte
 -- keeps its rules, so that the fault with the least number stands there. What stands further right isn't looked at: the fault that is
 -- reported has the least offset.
-use Rattle.std.specs.Prelude.{ℕ, length, ◌^◌, ◌==◌, nat_lt, ◌⊎◌, Bool, true, false, not, ◌&&◌, take, List, [], ◌∷◌, Option, Some, None, if◌then◌else◌}
+use Rattle.std.specs.Prelude.{ℕ, length, ◌^◌, ◌==◌, nat_lt, ◌⊎◌, Bool, true, false, not, ◌&&◌, List, [], ◌∷◌, Option, Some, None, if◌then◌else◌}
 use Rattle.base.specs.declared.pos.Pos.{Pos}
 use Rattle.syntax.specs.declared.expression.Name.{Name}
 use Rattle.syntax.specs.FirstBytes.{first_pos}
@@ -25,6 +25,8 @@ use Rattle.names.specs.declared.scope.Declared.TheVariants as declared
 use Rattle.names.specs.Scope.{Scope, declaration}
 use Rattle.names.specs.Naming.{name_in}
 use Rattle.names.specs.Faults.{FailsAsType}
+use Rattle.expression_types.specs.declared.wants.Wanted.{Wanted}
+use Rattle.expression_types.specs.declared.wants.Wanted.TheVariants as wants
 use Rattle.expression_types.specs.Typing.{Gives, one, called, asking, quoted, printed, panicked, exited, operand_in, Seen, Many, many, count, are_parts, are_shown, part_count, types_agree, operand_agrees, Callee, printer, panicker, reader, exiter, function, conversion, no_function, no_spread, no_text_spread, nothing, exit_places, spread_over, callee, gives, seen, taken}
 
 -- where a form is taken, and where it is left out
@@ -119,19 +121,29 @@ abbrev pub RangeFails : List Seen → Fault → Type 0
 RangeFails [] f = ⊥
 RangeFails (o ∷ os) f = IsFault (range_fault o.at (operand_in o.gives)) f ⊎ RangeFails os f
 
+-- places and expressions side by side, as far as there are both: a rule of a place and of the value there
+abbrev pub SidesFail : (Wanted → Pos → Option Operand → Option Fault) → List Wanted → List Seen → Fault → Type 0
+SidesFail rule (p ∷ ps) (o ∷ os) f = IsFault (rule p o.at (operand_in o.gives)) f ⊎ SidesFail rule ps os f
+SidesFail rule ps os f = ⊥
+
+-- what is no value by itself, at a place that has a rule; a place with no known type has none
+abbrev pub placed_range_fault : Wanted → Pos → Option Operand → Option Fault
+placed_range_fault wants.Own pos o = range_fault pos o
+placed_range_fault (wants.Typed t) pos o = range_fault pos o
+placed_range_fault wants.Unknown pos o = None
+
 -- a value of another type than its place asks for
-abbrev pub type_fault : Option ValueType → Pos → Option Operand → Option Fault
+abbrev pub type_fault : Wanted → Pos → Option Operand → Option Fault
 type_fault p pos o = if operand_agrees p o then None else Some (fault Mismatch pos)
 
-abbrev pub TypesFail : List (Option ValueType) → List Seen → Fault → Type 0
-TypesFail (p ∷ ps) (o ∷ os) f = IsFault (type_fault p o.at (operand_in o.gives)) f ⊎ TypesFail ps os f
-TypesFail ps os f = ⊥
+abbrev pub TypesFail : List Wanted → List Seen → Fault → Type 0
+TypesFail ps os f = SidesFail type_fault ps os f
 
 -- a result of another type, which is reported at its call
-abbrev pub results_fault : List (Option ValueType) → Many → Option Fault
+abbrev pub results_fault : List Wanted → Many → Option Fault
 results_fault ps m = if types_agree ps m.types then None else Some (fault Mismatch m.at)
 
-abbrev pub MismatchFails : List (Option ValueType) → List Seen → Option Many → Fault → Type 0
+abbrev pub MismatchFails : List Wanted → List Seen → Option Many → Fault → Type 0
 MismatchFails ps os None f = TypesFail ps os f
 MismatchFails ps os (Some m) f = IsFault (results_fault ps m) f
 
@@ -144,11 +156,11 @@ abbrev pub CountFails : Option ℕ → ℕ → Fault → Fault → Type 0
 CountFails o n own f = IsFault (count_fault o n own) f
 
 -- the values themselves at these places: each place has its own value
-abbrev pub PlacedFail : List (Option ValueType) → List Seen → Fault → Type 0
-PlacedFail ps os f = (ValuesFail (many os) os f ⊎ RangeFails (take (length ps) os) f) ⊎ MismatchFails ps os (many os) f
+abbrev pub PlacedFail : List Wanted → List Seen → Fault → Type 0
+PlacedFail ps os f = (ValuesFail (many os) os f ⊎ SidesFail placed_range_fault ps os f) ⊎ MismatchFails ps os (many os) f
 
 -- and `own` is the fault of another number
-abbrev pub TakeFails : Fault → List (Option ValueType) → List Seen → Fault → Type 0
+abbrev pub TakeFails : Fault → List Wanted → List Seen → Fault → Type 0
 TakeFails own ps os f = PlacedFail ps os f ⊎ CountFails (count os) (length ps) own f
 
 -- ---- calls

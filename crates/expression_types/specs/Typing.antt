@@ -8,7 +8,7 @@ use Rattle.syntax.specs.declared.expression.Name.{Name}
 use Rattle.syntax.specs.FirstBytes.{first_pos}
 use Rattle.syntax.specs.Expressions.{Ex as TreeEx, Exs as TreeExs, number, string, name, unary, binary, paren, call, selector, index, slice, array_type, slice_type, literal, elements, some, spelled}
 use Rattle.syntax.specs.Expressions as tree
-use Rattle.syntax.specs.Statements.{Clause, forever, while_true, counting, ranging}
+use Rattle.syntax.specs.Statements.{ValueSpec, Clause, forever, while_true, counting, ranging}
 use Rattle.typed_syntax.specs.Syntax.{Ex, Exs, read, local, global, here, none, more, results, read_int as items}
 use Rattle.typed_syntax.specs.Syntax as typed
 use Rattle.typed_syntax.specs.Types.{TypeTree, ints, bools}
@@ -29,6 +29,9 @@ use Rattle.names.specs.declared.scope.External.{External as ExternalFunction}
 use Rattle.names.specs.declared.scope.External.TheVariants as external
 use Rattle.names.specs.Scope.{Scope, Signature, declaration, signature, known}
 use Rattle.names.specs.Naming.{name_in, between}
+use Rattle.names.specs.Types.{type_in}
+use Rattle.expression_types.specs.declared.wants.Wanted.{Wanted}
+use Rattle.expression_types.specs.declared.wants.Wanted.TheVariants as wants
 
 -- an operand of `print`, `println` or `panic`: the bytes of a string, or a value and its type
 pub data Part : Type 0 where
@@ -233,27 +236,39 @@ types_with os (Some m) = Some m.types
 abbrev pub value_types : List Seen → Option (List ValueType)
 value_types os = types_with os (many os)
 
--- ---- places for values: the type that each asks for, or none where the value's own type holds
+-- ---- places for values, and what each asks for
 
-abbrev pub accepts : Option ValueType → ValueType → Bool
-accepts None t = true
-accepts (Some s) t = same_type s t
+-- what a place of this type asks for; where its type isn't known, nothing is known of that either
+abbrev pub wanted_by : Option ValueType → Wanted
+wanted_by None = wants.Unknown
+wanted_by (Some t) = wants.Typed t
+
+abbrev pub is_typed : Wanted → Bool
+is_typed wants.Own = false
+is_typed (wants.Typed t) = true
+is_typed wants.Unknown = false
+
+abbrev pub accepts : Wanted → ValueType → Bool
+accepts wants.Own t = true
+accepts (wants.Typed s) t = same_type s t
+accepts wants.Unknown t = true
 
 -- whether each type is one that its place asks for, as far as there are both
-abbrev pub types_agree : List (Option ValueType) → List ValueType → Bool
+abbrev pub types_agree : List Wanted → List ValueType → Bool
 types_agree (p ∷ ps) (t ∷ ts) = accepts p t && types_agree ps ts
 types_agree ps ts = true
 
 -- whether a place takes an operand: one that asks for a type what can be given to that
-abbrev pub accepts_operand : Option ValueType → Operand → Bool
-accepts_operand (Some t) x = is_assignable t x
-accepts_operand None x = true
+abbrev pub accepts_operand : Wanted → Operand → Bool
+accepts_operand wants.Own x = true
+accepts_operand (wants.Typed t) x = is_assignable t x
+accepts_operand wants.Unknown x = true
 
-abbrev pub operand_agrees : Option ValueType → Option Operand → Bool
+abbrev pub operand_agrees : Wanted → Option Operand → Bool
 operand_agrees p None = true
 operand_agrees p (Some x) = accepts_operand p x
 
-abbrev pub values_agree : List (Option ValueType) → List Seen → Bool
+abbrev pub values_agree : List Wanted → List Seen → Bool
 values_agree (p ∷ ps) (o ∷ os) = operand_agrees p (operand_in o.gives) && values_agree ps os
 values_agree ps os = true
 
@@ -262,28 +277,28 @@ each [] = none
 each (x ∷ xs) = more x (each xs)
 
 -- whether there are as many values as places, of the types that these ask for
-abbrev pub fits_with : List (Option ValueType) → List Seen → Option Many → Bool
+abbrev pub fits_with : List Wanted → List Seen → Option Many → Bool
 fits_with ps os None = (length os == length ps) && values_agree ps os
 fits_with ps os (Some m) = (length m.types == length ps) && types_agree ps m.types
 
-abbrev pub fits : List (Option ValueType) → List Seen → Bool
+abbrev pub fits : List Wanted → List Seen → Bool
 fits ps os = fits_with ps os (many os)
 
--- the values, and those at these places
+-- the values, and those at these places; at a place with no known type there may be what is no value, and then there are none
 abbrev pub all_values : List Seen → Option Many → Option Exs
 all_values os None = option_map each (values os)
 all_values os (Some m) = Some m.values
 
-abbrev pub taken : List (Option ValueType) → List Seen → Option Exs
+abbrev pub taken : List Wanted → List Seen → Option Exs
 taken ps os = allowed (fits ps os) (all_values os (many os))
 
 -- the types of these values
-abbrev pub taken_types : List (Option ValueType) → List Seen → Option (List ValueType)
+abbrev pub taken_types : List Wanted → List Seen → Option (List ValueType)
 taken_types ps os = option_and_then (λ es. value_types os) (taken ps os)
 
 -- a place for each of these types
-abbrev pub asked : List ValueType → List (Option ValueType)
-asked ts = map (λ t. Some t) ts
+abbrev pub asked : List ValueType → List Wanted
+asked ts = map (λ t. wants.Typed t) ts
 
 -- ---- calls
 
@@ -295,7 +310,7 @@ pub data Callee : Type 0 where
   panicker : Callee
   reader : Callee
   exiter : Callee
-  function : ℕ → List (Option ValueType) → (results : List ValueType) → Callee
+  function : ℕ → List Wanted → (results : List ValueType) → Callee
   conversion : Callee
   no_function : Callee
   no_spread : Callee
@@ -348,8 +363,8 @@ panicked_with at (p ∷ []) = Some (panicked at p)
 panicked_with at (p ∷ q ∷ ps) = None
 
 -- `exit` has one argument, which is an int
-abbrev pub exit_places : List (Option ValueType)
-exit_places = Some Int ∷ []
+abbrev pub exit_places : List Wanted
+exit_places = wants.Typed Int ∷ []
 
 abbrev pub exited_with : Pos → List Ex → Option Gives
 exited_with at [] = None
@@ -382,6 +397,14 @@ condition_in (counting before e behind) = e
 condition_in (ranging _ at e) = None
 
 module _ (text : List ℕ) where
+  -- what the names of a declaration with this type or none ask for
+  abbrev pub declared_wanted : Scope → Option TreeEx → Wanted
+  declared_wanted s None = wants.Own
+  declared_wanted s (Some e) = wanted_by (type_in text s e)
+
+  abbrev pub spec_wanted : Scope → ValueSpec → List Wanted
+  spec_wanted s v = map (λ n. declared_wanted s v.type_expr) v.names
+
   -- what a name stands for where it is called, or else an expression that gives this
   abbrev pub callee : Scope → Option Name → Option Gives → Callee
   callee s None o = callee_value (operand_in o)

@@ -16,9 +16,10 @@ ghost use Rattle.typed.specs.View.{ex_of};
 
 use crate::gives::{Callee, Gives, Item, Part};
 use crate::values::{
-    asked, count, count_fault, fits, part_count, parts, parts_fault, range_faults, shown_fault,
+    count, count_fault, fits, part_count, parts, parts_fault, range_faults, shown_fault,
     take_fault, taken, values, values_fault,
 };
+use crate::wants::{Wanted, asked};
 use base::{FuncId, NoMemory, Pos, ValueType};
 use names::{Declared, External, Known, Scope, spelled};
 use operators::Operand;
@@ -190,10 +191,10 @@ fn panic_fault(pos: Pos, arguments: &[Item]) -> Option<Fault>
 }
 
 /// The place for the argument of `exit`, an int.
-const EXIT_PLACES: [Option<ValueType>; 1] = [Some(ValueType::Int)];
+const EXIT_PLACES: [Wanted; 1] = [Wanted::Typed(ValueType::Int)];
 
 /// The fault of arguments at places, where another number of them is refused at the call.
-fn places_fault(pos: Pos, places: &[Option<ValueType>], arguments: &[Item]) -> Option<Fault>
+fn places_fault(pos: Pos, places: &[Wanted], arguments: &[Item]) -> Option<Fault>
     ensures { IsLeast (TakeFails (fault_at WrongCount pos) places.now (seens arguments.now)) result }
 {
     let own = Fault {
@@ -306,7 +307,7 @@ fn called(
     alloc: Global,
     pos: Pos,
     function: FuncId,
-    places: &[Option<ValueType>],
+    places: &[Wanted],
     results: Vec<ValueType>,
     arguments: Vec<Item>,
 ) -> Result<Option<Gives>, NoMemory>

@@ -8,6 +8,7 @@ ghost use Rattle.expression_types.specs.Typing.{shown_type, shown_of, as_part, o
 ghost use Rattle.expression_types.specs.Faults.{range_fault, single_fault, part_fault};
 ghost use Rattle.expression_types.specs.Passing.{part_view, gives_of};
 
+use crate::wants::Wanted;
 use base::{FuncId, Pos, TypeId, ValueType};
 use operators::{Operand, as_value, constant_range_fault, type_of};
 use type_faults::{Fault, FaultKind};
@@ -59,7 +60,7 @@ pub enum Callee {
     /// `exit`.
     Exiter,
     /// A function, the places for its arguments, and the types of its results.
-    Function(FuncId, Vec<Option<ValueType>>, Vec<ValueType>),
+    Function(FuncId, Vec<Wanted>, Vec<ValueType>),
     /// A type: a conversion.
     Conversion,
     /// A value that is no function.

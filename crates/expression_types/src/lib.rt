@@ -13,12 +13,14 @@ mod expressions;
 mod gives;
 mod naming;
 mod values;
+mod wants;
 
 pub use conditions::{Condition, Test, check_condition, check_test};
 pub use expressions::{Checked, Listed, Single, check_expr, check_list, check_single};
 pub use gives::{Callee, Gives, Item, Part, is_single, one_type, own_type, single_fault};
 pub use naming::known_type;
 pub use values::{
-    accepts, agrees, are_single, asked, count, count_fault, many_types, placed_fault,
-    singles_fault, take_fault, taken, taken_types, value_types, values_fault,
+    agrees, are_single, count, count_fault, many_types, placed_fault, singles_fault, take_fault,
+    taken, taken_types, value_types, values_fault,
 };
+pub use wants::{Wanted, accepts, asked, spec_wanted, wanted_by};

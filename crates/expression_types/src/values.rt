@@ -1,12 +1,12 @@
 //! Expressions side by side: the values of an assignment, a call or a `return`.
 
-ghost use Rattle.std.specs.Prelude.{◌≡◌, ◌⊎◌, Option, Some, None, IfOk, map, take};
+ghost use Rattle.std.specs.Prelude.{◌≡◌, ◌⊎◌, Option, Some, None, IfOk, map};
 ghost use Rattle.std.specs.Option.{option_map};
 ghost use Rattle.typed.specs.View.{ex_of, exs_of_values};
 ghost use Rattle.type_faults.specs.Least.{IsLeast};
 ghost use Rattle.type_faults.specs.Faults.{fault as fault_at};
-ghost use Rattle.expression_types.specs.Typing.{values, parts, are_single, are_parts, are_shown, part_count, single_types, many_in, many, count, value_types, accepts, types_agree, operand_in, operand_agrees, each, asked, fits, all_values, taken, taken_types};
-ghost use Rattle.expression_types.specs.Faults.{type_fault, SinglesFail, PartsFail, ValuesFail, RangeFails, TypesFail, MismatchFails, PlacedFail, TakeFails, count_fault, shown_fault};
+ghost use Rattle.expression_types.specs.Typing.{values, parts, are_single, are_parts, are_shown, part_count, single_types, many_in, many, count, value_types, is_typed, types_agree, operand_in, operand_agrees, each, fits, all_values, taken, taken_types};
+ghost use Rattle.expression_types.specs.Faults.{type_fault, SinglesFail, PartsFail, ValuesFail, RangeFails, SidesFail, placed_range_fault, TypesFail, MismatchFails, PlacedFail, TakeFails, count_fault, shown_fault};
 ghost use Rattle.type_faults.specs.Given.{with_last};
 ghost use Rattle.expression_types.specs.Passing.{part_view, gives_of, seens, results_of};
 
@@ -14,7 +14,8 @@ use crate::gives::{
     Gives, Item, Part, is_part, is_shown, is_single, one_operand, one_type, part_fault, part_in,
     range_fault, single_fault,
 };
-use base::{NoMemory, Pos, ValueType, same_type};
+use crate::wants::{Wanted, accepts};
+use base::{NoMemory, Pos, ValueType};
 use operators::value_of;
 use std::alloc::Global;
 use type_faults::{Fault, FaultKind, lesser};
@@ -194,25 +195,8 @@ pub fn count_fault(count: Option<usize>, wanted: usize, own: Fault) -> Option<Fa
     }
 }
 
-/// A place for each of these types.
-pub fn asked(alloc: Global, types: &[ValueType]) -> Result<Vec<Option<ValueType>>, NoMemory>
-    ensures { IfOk result (λ r. r.items ≡ asked types.now) }
-{
-    Ok(types.iter().map(|t| Some(*t)).collect(alloc)?)
-}
-
-/// Whether a place takes values of a type.
-pub fn accepts(place: Option<ValueType>, value_type: ValueType) -> bool
-    ensures { result ≡ accepts place value_type }
-{
-    match place {
-        None => true,
-        Some(wanted) => same_type(wanted, value_type),
-    }
-}
-
 /// Whether each type is one that its place asks for.
-fn types_agree(places: &[Option<ValueType>], types: &[ValueType]) -> bool
+fn types_agree(places: &[Wanted], types: &[ValueType]) -> bool
     ensures { result ≡ types_agree places.now types.now }
 {
     let mut agree = true;
@@ -222,18 +206,28 @@ fn types_agree(places: &[Option<ValueType>], types: &[ValueType]) -> bool
     agree
 }
 
+/// Whether a place asks for a type.
+fn asks(place: Wanted) -> bool
+    ensures { result ≡ is_typed place }
+{
+    match place {
+        Wanted::Typed(_) => true,
+        Wanted::Own | Wanted::Unknown => false,
+    }
+}
+
 /// Whether a place takes the one value of an expression, where it has one.
-pub fn agrees(place: Option<ValueType>, gives: &Option<Gives>) -> bool
+pub fn agrees(place: Wanted, gives: &Option<Gives>) -> bool
     ensures { result ≡ operand_agrees place (operand_in (option_map gives_of gives.now)) }
 {
     match one_type(gives) {
         Some(value_type) => accepts(place, value_type),
-        None => place.is_none() || !is_single(gives),
+        None => !asks(place) || !is_single(gives),
     }
 }
 
 /// The fault of a value that its place doesn't take.
-fn type_fault(place: Option<ValueType>, item: &Item) -> Option<Fault>
+fn type_fault(place: Wanted, item: &Item) -> Option<Fault>
     ensures { result ≡ type_fault place item.now.pos (operand_in (option_map gives_of item.now.gives)) }
 {
     if agrees(place, &item.gives) {
@@ -246,7 +240,8 @@ fn type_fault(place: Option<ValueType>, item: &Item) -> Option<Fault>
     }
 }
 
-fn types_fault(places: &[Option<ValueType>], items: &[Item]) -> Option<Fault>
+/// The fault of values of other types than their places ask for, each of which has its own expression.
+fn types_fault(places: &[Wanted], items: &[Item]) -> Option<Fault>
     ensures { IsLeast (TypesFail places.now (seens items.now)) result }
 {
     let mut fault = None;
@@ -257,7 +252,7 @@ fn types_fault(places: &[Option<ValueType>], items: &[Item]) -> Option<Fault>
 }
 
 /// The fault of values of other types than their places ask for.
-fn mismatch_fault(places: &[Option<ValueType>], items: &[Item]) -> Option<Fault>
+fn mismatch_fault(places: &[Wanted], items: &[Item]) -> Option<Fault>
     ensures { IsLeast (MismatchFails places.now (seens items.now) (many (seens items.now))) result }
 {
     match many_types(items) {
@@ -275,31 +270,37 @@ fn mismatch_fault(places: &[Option<ValueType>], items: &[Item]) -> Option<Fault>
     }
 }
 
-/// The first `wanted` expressions.
-#[tactic(auto, using(type_faults::proofs::Lists::take_all))]
-fn first(items: &[Item], wanted: usize) -> &[Item]
-    ensures { result.now ≡ take wanted items.now }
+/// The fault of what is no value by itself, at a place that has a rule.
+fn placed_range_fault(place: Wanted, item: &Item) -> Option<Fault>
+    ensures { result ≡ placed_range_fault place item.now.pos (operand_in (option_map gives_of item.now.gives)) }
 {
-    if wanted < items.len() {
-        &items[..wanted]
-    } else {
-        items
+    match place {
+        Wanted::Own | Wanted::Typed(_) => range_fault(item.pos, &item.gives),
+        Wanted::Unknown => None,
     }
 }
 
+/// The fault of what is no value by itself, where each place has its own expression.
+fn placed_range_faults(places: &[Wanted], items: &[Item]) -> Option<Fault>
+    ensures { IsLeast (SidesFail placed_range_fault places.now (seens items.now)) result }
+{
+    let mut fault = None;
+    for index in 0..places.len().min(items.len()) {
+        fault = lesser(fault, placed_range_fault(places[index], &items[index]));
+    }
+    fault
+}
+
 /// The fault of the values themselves at these places.
-pub fn placed_fault(places: &[Option<ValueType>], items: &[Item]) -> Option<Fault>
+pub fn placed_fault(places: &[Wanted], items: &[Item]) -> Option<Fault>
     ensures { IsLeast (PlacedFail places.now (seens items.now)) result }
 {
-    let own = lesser(
-        values_fault(items),
-        range_faults(first(items, places.len())),
-    );
+    let own = lesser(values_fault(items), placed_range_faults(places, items));
     lesser(own, mismatch_fault(places, items))
 }
 
 /// The fault of values at these places; `own` is that of another number.
-pub fn take_fault(own: Fault, places: &[Option<ValueType>], items: &[Item]) -> Option<Fault>
+pub fn take_fault(own: Fault, places: &[Wanted], items: &[Item]) -> Option<Fault>
     ensures { IsLeast (TakeFails own places.now (seens items.now)) result }
 {
     lesser(
@@ -373,7 +374,7 @@ fn results(items: Vec<Item>) -> Option<Values>
 }
 
 /// Whether there are as many values as places, of the types that these ask for.
-pub fn fits(places: &[Option<ValueType>], items: &[Item]) -> bool
+pub fn fits(places: &[Wanted], items: &[Item]) -> bool
     ensures { result ≡ fits places.now (seens items.now) }
 {
     match many_types(items) {
@@ -394,11 +395,7 @@ fn all_values(alloc: Global, items: Vec<Item>) -> Result<Option<Values>, NoMemor
 }
 
 /// The values at these places.
-pub fn taken(
-    alloc: Global,
-    places: &[Option<ValueType>],
-    items: Vec<Item>,
-) -> Result<Option<Values>, NoMemory>
+pub fn taken(alloc: Global, places: &[Wanted], items: Vec<Item>) -> Result<Option<Values>, NoMemory>
     ensures { IfOk result (λ r. option_map exs_of_values r ≡ taken places.now (seens items.items)) }
 {
     if fits(places, &items) {
@@ -411,7 +408,7 @@ pub fn taken(
 /// The types of the values at these places.
 pub fn taken_types(
     alloc: Global,
-    places: &[Option<ValueType>],
+    places: &[Wanted],
     items: &[Item],
 ) -> Result<Option<Vec<ValueType>>, NoMemory>
     ensures { IfOk result (λ r. option_map (λ v. v.items) r ≡ taken_types places.now (seens items.now)) }

@@ -1,6 +1,6 @@
 -- Where no rule fails in the declarations of constants and variables of a package, these are what declarations of an accepted package are.
 use Rattle.std.proofs.Common.{◌≡◌, ℕ, suc, Bool, true, false, cond, List, [], ◌∷◌, length, ◌⊎◌, inl, inr, Option, Some, None, refl, sym, ap, ◌∙◌, subst}
-use Rattle.std.specs.Prelude.{option_and_then}
+use Rattle.std.specs.Prelude.{option_and_then, is_some}
 use Rattle.std.specs.Option.{option_map}
 use Rattle.base.specs.declared.pos.Pos.{Pos}
 use Rattle.syntax.specs.FirstBytes.{first_pos}
@@ -12,7 +12,7 @@ use Rattle.type_faults.specs.declared.fault.Fault.{Fault}
 use Rattle.type_faults.specs.declared.fault.FaultKind.TheVariants.{Redeclared, WrongCount, OutOfProfile}
 use Rattle.type_faults.specs.Faults.{fault, IsFault}
 use Rattle.type_faults.proofs.Decided.{Decided}
-use Rattle.type_faults.proofs.Options.{and_then_some, map_some}
+use Rattle.type_faults.proofs.Options.{and_then_some, map_some, none_some, same_some}
 use Rattle.base.specs.declared.value_type.ValueType.{ValueType}
 use Rattle.operators.specs.Operands.{type_of, as_value}
 use Rattle.names.specs.declared.scope.Declared.{Declared}
@@ -20,16 +20,18 @@ use Rattle.names.specs.declared.scope.Known.{Known}
 use Rattle.names.specs.declared.scope.Known.TheVariants as known_as
 use Rattle.names.specs.Scope.{Scope}
 use Rattle.names.specs.Types.{type_in}
-use Rattle.expression_types.specs.Typing.{operand_in, value_in, type_in_one, own_type, many, all_values, values, each, fits, taken, gives, seen}
+use Rattle.expression_types.specs.declared.wants.Wanted.{Wanted}
+use Rattle.expression_types.specs.Typing.{operand_in, value_in, type_in_one, own_type, many, all_values, values, each, fits, taken, spec_wanted, gives, seen}
 use Rattle.expression_types.specs.Faults.{CountFails, SinglesFail, TakeFails, FailsInEach}
 use Rattle.expression_types.proofs.DecidedValues.{take_decided}
 use Rattle.expression_types.proofs.Settled.{seen_decided}
+use Rattle.expression_types.proofs.Places.{spec_asks}
 use Rattle.expression_types.proofs.InForm.{typed_value}
 use Rattle.package_values.specs.declared.items.Role.{Role}
 use Rattle.package_values.specs.declared.items.Role.TheVariants as role
 use Rattle.package_values.specs.Values.{Item, items_in, is_variable_type, known_variable, given_by, variable_type, given_as, settled}
 use Rattle.package_values.specs.Needs.{have_form}
-use Rattle.package_values.specs.ValueFaults.{is_this_value, value_name_fault, ValuesFail, is_bare, wanted, type_asked, TypeFails, SpecFails, SpecsFail, left_out_fault, ValuesLeftOut, LeftOut, InitialsFail, VariablesFail, AllVariablesFail, DeclarationsFail, NamesFail}
+use Rattle.package_values.specs.ValueFaults.{is_this_value, value_name_fault, ValuesFail, is_bare, type_asked, TypeFails, SpecFails, SpecsFail, left_out_fault, ValuesLeftOut, LeftOut, InitialsFail, VariablesFail, AllVariablesFail, DeclarationsFail, NamesFail}
 use Rattle.package_values.specs.Accepted.{TypeIs, ConstantValuesAre, ConstantsAre, AllConstantsAre, OwnTypesAre, VariableTypesAre, InitialsAre, VariablesAre, AllVariablesAre, SpecsAre, NamesAre, IsGiven, DeclarationsAre}
 use Rattle.package_values.proofs.Giving.{holding, allowed_gives, variable_known}
 use Rattle.package_values.proofs.AllKnown.{NothingFails, behind, settled_is, never_here, type_behind, value_behind, single_behind, forms_behind, no_call_behind, counted_behind, known_there, given_there, settled_behind}
@@ -90,17 +92,21 @@ module _ (text : List ℕ) (s : Scope) (ds : List Declaration) (h : NothingFails
   -- ---- variables
 
   -- the values that variables begin with
-  taken_there : (v : ValueSpec) (own : Fault) → Never (FailsInEach text r v.values) → Never (TakeFails own (wanted text r v) (seen text r v.values)) → (xs : Exs) × (taken (wanted text r v) (seen text r v.values) ≡ Some xs)
-  taken_there v own each_never never =
-      by (taken (wanted text r v) (seen text r v.values)) (take_decided (seen text r v.values) (FailsInEach text r v.values) (seen_decided text r (settled_behind text s ds h) v.values) own (wanted text r v))
+  types_known : (t : Option TreeEx) → Never (TypeFails text r t) → (e : TreeEx) → t ≡ Some e → is_some (type_in text r e) ≡ true
+  types_known None never e is = absurd (none_some is)
+  types_known (Some u) never e is = subst (λ (x : TreeEx). is_some (type_in text r x) ≡ true) (same_some is) (ap is_some (type_behind text s ds h u never).1)
+
+  taken_there : (v : ValueSpec) (own : Fault) → Never (TypeFails text r v.type_expr) → Never (FailsInEach text r v.values) → Never (TakeFails own (spec_wanted text r v) (seen text r v.values)) → (xs : Exs) × (taken (spec_wanted text r v) (seen text r v.values) ≡ Some xs)
+  taken_there v own type_never each_never never =
+      by (taken (spec_wanted text r v) (seen text r v.values)) (take_decided (seen text r v.values) (FailsInEach text r v.values) (seen_decided text r (settled_behind text s ds h) v.values) own (spec_wanted text r v) (spec_asks text r v.type_expr v.names (types_known v.type_expr type_never)))
     where
-      by : (o : Option Exs) → Decided o (λ f. FailsInEach text r v.values f ⊎ TakeFails own (wanted text r v) (seen text r v.values) f) → (xs : Exs) × (o ≡ Some xs)
+      by : (o : Option Exs) → Decided o (λ f. FailsInEach text r v.values f ⊎ TakeFails own (spec_wanted text r v) (seen text r v.values) f) → (xs : Exs) × (o ≡ Some xs)
       by (Some xs) d = (xs, refl)
       by None d = absurd (elim d.1 [ inl x ↦ each_never d.0 x | inr x ↦ never d.0 x ])
 
-  initials_are : (at : Pos) (v : ValueSpec) → Never (FailsInEach text r v.values) → Never (InitialsFail text r false at v) → InitialsAre text r v
-  initials_are at v each_never never =
-      let xs = taken_there v (fault WrongCount at) each_never (λ f x. never f (inl x)) in
+  initials_are : (at : Pos) (v : ValueSpec) → Never (TypeFails text r v.type_expr) → Never (FailsInEach text r v.values) → Never (InitialsFail text r false at v) → InitialsAre text r v
+  initials_are at v type_never each_never never =
+      let xs = taken_there v (fault WrongCount at) type_never each_never (λ f x. never f (inl x)) in
       record { form = forms_behind text s ds h v.values (λ f x. never f (inr x)); xs = xs.0; taken_is = xs.1 }
 
   -- a value of a type by itself
@@ -121,7 +127,7 @@ module _ (text : List ℕ) (s : Scope) (ds : List Declaration) (h : NothingFails
       (own_type_is e p.0 p.1 (λ f x. never f (inl x)), own_types_are es q.0 q.1 (λ f x. never f (inr x)))
 
   -- what has the form of constants has a value each
-  values_there : (es : TreeExs) (ps : List (Option ValueType)) (xs : Exs) → have_form text r es ≡ true → taken ps (seen text r es) ≡ Some xs → (ys : List Ex) × (values (seen text r es) ≡ Some ys)
+  values_there : (es : TreeExs) (ps : List Wanted) (xs : Exs) → have_form text r es ≡ true → taken ps (seen text r es) ≡ Some xs → (ys : List Ex) × (values (seen text r es) ≡ Some ys)
   values_there es ps xs form is =
       let os = seen text r es in
       let p = allowed_gives (fits ps os) (all_values os (many os)) xs is in
@@ -130,7 +136,7 @@ module _ (text : List ℕ) (s : Scope) (ds : List Declaration) (h : NothingFails
   types_are : (t : Option TreeEx) (v : ValueSpec) → v.type_expr ≡ t → Never (TypeFails text r t) → Never (LeftOut text r t (seen text r v.values)) → ((t ≡ None) → InitialsAre text r v) → VariableTypesAre text r t v.values
   types_are (Some e) v is type_never never begin = let t = type_behind text s ds h e type_never in (t.0, t.1, rules_there (type_in text r e) t.0 (first_pos e) t.1 never)
   types_are None v is type_never never begin =
-      let i = begin refl in let ys = values_there v.values (wanted text r v) i.xs i.form i.taken_is in own_types_are v.values ys.0 ys.1 never
+      let i = begin refl in let ys = values_there v.values (spec_wanted text r v) i.xs i.form i.taken_is in own_types_are v.values ys.0 ys.1 never
 
   variables_are : (at : Pos) (v : ValueSpec) → Never (VariablesFail text r at v) → VariablesAre text r v
   variables_are at v never = by (is_bare v.type_expr v.values) refl
@@ -139,7 +145,7 @@ module _ (text : List ℕ) (s : Scope) (ds : List Declaration) (h : NothingFails
       each_never f x = never f (inl (inl (inr x)))
 
       begin : (b : Bool) → is_bare v.type_expr v.values ≡ b → b ≡ false → InitialsAre text r v
-      begin b is b_is = initials_are at v each_never (λ f x. never f (inl (inr (subst (λ (c : Bool). InitialsFail text r c at v f) (sym (is ∙ b_is)) x))))
+      begin b is b_is = initials_are at v (λ f x. never f (inl (inl (inl x)))) each_never (λ f x. never f (inl (inr (subst (λ (c : Bool). InitialsFail text r c at v f) (sym (is ∙ b_is)) x))))
 
       untyped : v.type_expr ≡ None → is_bare v.type_expr v.values ≡ false
       untyped t_is = ap (λ (t : Option TreeEx). is_bare t v.values) t_is

@@ -37,17 +37,17 @@ use Rattle.names.specs.Scope.{Scope, Signature, numbered, declaration}
 use Rattle.names.specs.Types.{type_in}
 use Rattle.names.specs.Faults.{FailsAsType}
 use Rattle.names.proofs.Settled.{IsSound, AreSound, IsKnown, IsTyped, IsSettled, predeclared_is, type_decided}
-use Rattle.expression_types.specs.Typing.{are_single, Gives, one, name_operand, prefix_gives, accepts_operand, single, operand_in, type_in_one, own_type, Seen, Many, many_in, many as many_of, count_of, gives, seen}
+use Rattle.expression_types.specs.Typing.{are_single, Gives, one, name_operand, prefix_gives, wanted_by, accepts_operand, single, operand_in, type_in_one, own_type, Seen, Many, many_in, many as many_of, count_of, declared_wanted, spec_wanted, gives, seen}
 use Rattle.expression_types.specs.Faults.{single_fault, range_fault, RangeFails, CountFails, SinglesFail, ValuesFail as ManyFail, Fails, FailsInEach}
-use Rattle.expression_types.proofs.DecidedValues.{single_decided, as_value_decided}
+use Rattle.expression_types.proofs.DecidedValues.{single_decided, as_value_decided, ranges_placed}
+use Rattle.expression_types.proofs.Places.{spec_asks}
 use Rattle.expression_types.proofs.InForm.{typed_value}
-use Rattle.type_faults.proofs.Lists.{take_all}
 use Rattle.expression_types.proofs.Settled.{gives_decided}
 use Rattle.package_values.specs.Values.{Item, as_constant, unvalued, paired, or_unvalued, items_of, items_in_specs, items_in, with_type, is_variable_type, known_variable, accepted, given_by, variable_type, given_as, given, settled}
 use Rattle.package_values.specs.declared.items.Role.{Role}
 use Rattle.package_values.specs.declared.items.Role.TheVariants as role
 use Rattle.package_values.specs.Needs.{names_in, names_in_each, names_in_some, names_waited, value_number, also, has_form, have_form, waited_form, numbers_of, needed_for, needed_as, needed, needed_in, Needs, Reaches, at_once, through}
-use Rattle.package_values.specs.ValueFaults.{single_count, value_fault, ValuesFail, type_asked, TypeFails, SpecFails, SpecsFail, form_fault, FormsFail, left_out_fault, ValuesLeftOut, wanted, InitialsFail, VariablesFail, AllVariablesFail, cycle_place, DeclarationsFail, ItemsFail}
+use Rattle.package_values.specs.ValueFaults.{single_count, value_fault, ValuesFail, type_asked, TypeFails, SpecFails, SpecsFail, form_fault, FormsFail, left_out_fault, ValuesLeftOut, InitialsFail, VariablesFail, AllVariablesFail, cycle_place, DeclarationsFail, ItemsFail}
 use Rattle.components.specs.Graph.{Among}
 use Rattle.package_values.specs.Passing.{has_mark, is_marked}
 use Rattle.package_values.proofs.Growth.{known, Consistent, IsEnd, rounds, rounds_good, rounds_settle, all_seen, rounds_hold}
@@ -215,14 +215,14 @@ module _ (text : List ℕ) (s : Scope) (n : ℕ) (formed : IsFormed s.types) (ty
   typed_given : (t : ValueType) (c : Fixed) → same_type t (constant_type c.value_type c.value) ≡ true → holds t c.value ≡ true → (f : Fixed) × (with_type t c ≡ Some f)
   typed_given t c same holds1 = (_, ap (λ (b : Bool). allowed (b && holds t c.value) (Some (record { value_type = Some t; value = c.value }))) same ∙ ap (λ (b : Bool). allowed (true && b) (Some (record { value_type = Some t; value = c.value }))) holds1)
 
-  accepted_here : (t : Option TreeEx) (c : Fixed) → Never (TypeFails text (holding s cs) t) → accepts_operand (type_asked text (holding s cs) t) (constant c) ≡ true → is_held (type_asked text (holding s cs) t) c.value ≡ true
+  accepted_here : (t : Option TreeEx) (c : Fixed) → Never (TypeFails text (holding s cs) t) → accepts_operand (wanted_by (type_asked text (holding s cs) t)) (constant c) ≡ true → is_held (type_asked text (holding s cs) t) c.value ≡ true
       → (f : Fixed) × (accepted text (holding s cs) t c ≡ Some f)
   accepted_here None c never a h = (c, refl)
   accepted_here (Some e) c never a h = let t = type_here e never in by t.0 t.1
     where
       by : (t : ValueType) → type_in text (holding s cs) e ≡ Some t → (f : Fixed) × (accepted text (holding s cs) (Some e) c ≡ Some f)
       by t is =
-          let same = subst (λ (o : Option ValueType). accepts_operand o (constant c) ≡ true) is a in
+          let same = subst (λ (o : Option ValueType). accepts_operand (wanted_by o) (constant c) ≡ true) is a in
           let held1 = subst (λ (o : Option ValueType). is_held o c.value ≡ true) is h in
           let f = typed_given t c same held1 in (f.0, ap (option_and_then (λ u. with_type u c)) is ∙ f.1)
 
@@ -234,10 +234,10 @@ module _ (text : List ℕ) (s : Scope) (n : ℕ) (formed : IsFormed s.types) (ty
       by x.0 x.1 (λ f h. value_never f (subst (λ (o : Option Operand). IsFault (value_fault (type_asked text (holding s cs) t) at o) f) (sym x.1) h))
     where
       by : (x : Operand) → operand_in (gives text (holding s cs) e) ≡ Some x → Never (IsFault (value_fault (type_asked text (holding s cs) t) at (Some x))) → (f : Fixed) × (given_by text (holding s cs) t (Some e) ≡ Some f)
-      by (value u y) is free = absurd (no_value (accepts_operand (type_asked text (holding s cs) t) (value u y)) at free)
-      by nil is free = absurd (no_value (accepts_operand (type_asked text (holding s cs) t) nil) at free)
+      by (value u y) is free = absurd (no_value (accepts_operand (wanted_by (type_asked text (holding s cs) t)) (value u y)) at free)
+      by nil is free = absurd (no_value (accepts_operand (wanted_by (type_asked text (holding s cs) t)) nil) at free)
       by (constant c) is free =
-          let fits = fitting (accepts_operand (type_asked text (holding s cs) t) (constant c)) (is_held (type_asked text (holding s cs) t) c.value) at free in
+          let fits = fitting (accepts_operand (wanted_by (type_asked text (holding s cs) t)) (constant c)) (is_held (type_asked text (holding s cs) t) c.value) at free in
           let f = accepted_here t c type_never fits.0 fits.1 in
           (f.0, ap (λ (o : Option Operand). option_and_then (accepted text (holding s cs) t) (option_and_then as_constant o)) is ∙ f.1)
 
@@ -427,18 +427,19 @@ module _ (text : List ℕ) (s : Scope) (n : ℕ) (formed : IsFormed s.types) (ty
       singles : Never (SinglesFail os)
       singles f h = never f (inl (inl (inl (inl (subst (λ (o : Option Many). ManyFail o os f) (sym alone) h)))))
 
-      places : length (wanted text (holding s cs) (record { names = ns; type_expr = None; values = es })) ≡ length ns
-      places = length-map ns (λ (n : Name). type_asked text (holding s cs) None)
+      places : length (spec_wanted text (holding s cs) (record { names = ns; type_expr = None; values = es })) ≡ length ns
+      places = length-map ns (λ (n : Name). declared_wanted text (holding s cs) None)
 
       -- each value has its place
       ranges : (is : List Item) → paired role.Variable ns None es 0 ns es ≡ Some is → Never (RangeFails os)
       ranges is e f h =
           let long : length os ≡ length ns = paired_long role.Variable ns None es 0 ns es is e in
-          never f (inl (inl (inl (inr (subst (λ (l : List Seen). RangeFails l f) (sym (take_all (length (wanted text (holding s cs) (record { names = ns; type_expr = None; values = es }))) os (omega (arith, long, places)))) h)))))
+          let asks = spec_asks text (holding s cs) None ns (λ e1 e1_is. absurd (none_some e1_is)) in
+          never f (inl (inl (inl (inr (ranges_placed (spec_wanted text (holding s cs) (record { names = ns; type_expr = None; values = es })) os asks (long ∙ sym places) f h)))))
 
       count_never : Never (CountFails (single_count os) (length ns) (fault WrongCount at))
       count_never f h =
-          never f (inl (inr (subst (λ (o : Option Many). CountFails (count_of os o) (length (wanted text (holding s cs) (record { names = ns; type_expr = None; values = es }))) (fault WrongCount at) f) (sym alone)
+          never f (inl (inr (subst (λ (o : Option Many). CountFails (count_of os o) (length (spec_wanted text (holding s cs) (record { names = ns; type_expr = None; values = es }))) (fault WrongCount at) f) (sym alone)
           (subst (λ (m : ℕ). CountFails (single_count os) m (fault WrongCount at) f) (sym places) h))))
 
       by : (o : Option (List Item)) → paired role.Variable ns None es 0 ns es ≡ o → AllByRecursion Sound (or_unvalued o (unvalued role.Variable ns None es 0 ns))

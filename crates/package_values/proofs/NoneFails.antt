@@ -15,7 +15,7 @@ use Rattle.type_faults.specs.declared.fault.Fault.{Fault}
 use Rattle.type_faults.specs.declared.fault.FaultKind.TheVariants.{Redeclared, Mismatch, WrongCount, ConstRange, OutOfProfile}
 use Rattle.type_faults.specs.Faults.{fault, IsFault}
 use Rattle.type_faults.proofs.Decided.{Decided}
-use Rattle.type_faults.proofs.Options.{and_then_some, none_some}
+use Rattle.type_faults.proofs.Options.{and_then_some, none_some, same_some}
 use Rattle.base.specs.declared.value_type.ValueType.{ValueType}
 use Rattle.constants.specs.declared.constant.Fixed.{Fixed}
 use Rattle.constants.specs.Constants.{constant_type, holds}
@@ -26,13 +26,14 @@ use Rattle.names.specs.Types.{type_in}
 use Rattle.names.specs.Faults.{FailsAsType}
 use Rattle.names.specs.declared.scope.Known.{Known}
 use Rattle.names.proofs.Settled.{AreSound, IsKnown, IsTyped, IsSettled, type_decided}
-use Rattle.expression_types.specs.Typing.{operand_in, type_in_one, own_type, are_single, taken, gives, seen}
+use Rattle.expression_types.specs.Typing.{operand_in, type_in_one, own_type, are_single, taken, spec_wanted, gives, seen}
 use Rattle.expression_types.specs.Faults.{CountFails, SinglesFail, TakeFails, Fails, FailsInEach, FailsAsOperand}
 use Rattle.expression_types.proofs.DecidedValues.{operand_decided, take_decided}
 use Rattle.expression_types.proofs.Settled.{gives_decided, seen_decided}
+use Rattle.expression_types.proofs.Places.{spec_asks}
 use Rattle.package_values.specs.Values.{Item, items_in, constant_in, is_variable_type, with_type, accepted, given_by, settled}
 use Rattle.package_values.specs.Needs.{has_form, have_form}
-use Rattle.package_values.specs.ValueFaults.{is_this_value, value_fault, value_name_fault, single_count, ValuesFail, is_bare, wanted, type_asked, TypeFails, SpecFails, SpecsFail, form_fault, FormsFail, left_out_fault, ValuesLeftOut, LeftOut, InitialsFail, VariablesFail, AllVariablesFail, DeclarationsFail, NamesFail}
+use Rattle.package_values.specs.ValueFaults.{is_this_value, value_fault, value_name_fault, single_count, ValuesFail, is_bare, type_asked, TypeFails, SpecFails, SpecsFail, form_fault, FormsFail, left_out_fault, ValuesLeftOut, LeftOut, InitialsFail, VariablesFail, AllVariablesFail, DeclarationsFail, NamesFail}
 use Rattle.package_values.specs.Accepted.{TypeIs, ConstantValuesAre, ConstantsAre, AllConstantsAre, OwnTypesAre, VariableTypesAre, InitialsAre, VariablesAre, AllVariablesAre, SpecsAre, NamesAre, DeclarationsAre}
 use Rattle.package_values.proofs.Growth.{known, rounds_many}
 use Rattle.package_values.proofs.Giving.{holding, give, monotone, a_constant, allowed_gives, looks_are}
@@ -158,9 +159,13 @@ module _ (text : List ℕ) (r : Scope) (settled1 : IsSettled r) where
   variable_type_never (Some e) es are f h = type_never e are.0 are.1 f h
 
   -- values that are taken
-  taken_never : (v : ValueSpec) (own : Fault) → InitialsAre text r v → Never (λ f. FailsInEach text r v.values f ⊎ TakeFails own (wanted text r v) (seen text r v.values) f)
-  taken_never v own are =
-      given_never (taken (wanted text r v) (seen text r v.values)) are.xs _ are.taken_is (take_decided (seen text r v.values) (FailsInEach text r v.values) (seen_decided text r settled1 v.values) own (wanted text r v))
+  types_known : (t : Option TreeEx) (es : TreeExs) → VariableTypesAre text r t es → (e : TreeEx) → t ≡ Some e → is_some (type_in text r e) ≡ true
+  types_known None es are e is = absurd (none_some is)
+  types_known (Some u) es are e is = subst (λ (x : TreeEx). is_some (type_in text r x) ≡ true) (same_some is) (ap is_some are.1)
+
+  taken_never : (v : ValueSpec) (own : Fault) → VariableTypesAre text r v.type_expr v.values → InitialsAre text r v → Never (λ f. FailsInEach text r v.values f ⊎ TakeFails own (spec_wanted text r v) (seen text r v.values) f)
+  taken_never v own typed are =
+      given_never (taken (spec_wanted text r v) (seen text r v.values)) are.xs _ are.taken_is (take_decided (seen text r v.values) (FailsInEach text r v.values) (seen_decided text r settled1 v.values) own (spec_wanted text r v) (spec_asks text r v.type_expr v.names (types_known v.type_expr v.values typed)))
 
   -- a variable with a type alone has no values
   bare_never : (t : Option TreeEx) (es : TreeExs) → is_bare t es ≡ true → Never (FailsInEach text r es)
@@ -168,20 +173,20 @@ module _ (text : List ℕ) (r : Scope) (settled1 : IsSettled r) where
   bare_never (Some e) (some x es) is f h = cc is
   bare_never None es is f h = cc is
 
-  each_never : (at : Pos) (v : ValueSpec) → (is_bare v.type_expr v.values ≡ true) ⊎ InitialsAre text r v → Never (FailsInEach text r v.values)
-  each_never at v (inl is) f h = bare_never v.type_expr v.values is f h
-  each_never at v (inr are) f h = taken_never v (fault WrongCount at) are f (inl h)
+  each_never : (at : Pos) (v : ValueSpec) → VariableTypesAre text r v.type_expr v.values → (is_bare v.type_expr v.values ≡ true) ⊎ InitialsAre text r v → Never (FailsInEach text r v.values)
+  each_never at v typed (inl is) f h = bare_never v.type_expr v.values is f h
+  each_never at v typed (inr are) f h = taken_never v (fault WrongCount at) typed are f (inl h)
 
-  initials_never : (b : Bool) (at : Pos) (v : ValueSpec) → is_bare v.type_expr v.values ≡ b → (is_bare v.type_expr v.values ≡ true) ⊎ InitialsAre text r v → Never (InitialsFail text r b at v)
-  initials_never true at v b_is are f h = h
-  initials_never false at v b_is (inl is) f h = let bad : false ≡ true = sym b_is ∙ is in cc bad
-  initials_never false at v b_is (inr are) f (inl h) = taken_never v (fault WrongCount at) are f (inr h)
-  initials_never false at v b_is (inr are) f (inr h) = forms_never v.values are.form f h
+  initials_never : (b : Bool) (at : Pos) (v : ValueSpec) → VariableTypesAre text r v.type_expr v.values → is_bare v.type_expr v.values ≡ b → (is_bare v.type_expr v.values ≡ true) ⊎ InitialsAre text r v → Never (InitialsFail text r b at v)
+  initials_never true at v typed b_is are f h = h
+  initials_never false at v typed b_is (inl is) f h = let bad : false ≡ true = sym b_is ∙ is in cc bad
+  initials_never false at v typed b_is (inr are) f (inl h) = taken_never v (fault WrongCount at) typed are f (inr h)
+  initials_never false at v typed b_is (inr are) f (inr h) = forms_never v.values are.form f h
 
   variables_never : (at : Pos) (v : ValueSpec) → VariablesAre text r v → Never (VariablesFail text r at v)
   variables_never at v are f (inl (inl (inl h))) = variable_type_never v.type_expr v.values are.types_are f h
-  variables_never at v are f (inl (inl (inr h))) = each_never at v are.values f h
-  variables_never at v are f (inl (inr h)) = initials_never (is_bare v.type_expr v.values) at v refl are.values f h
+  variables_never at v are f (inl (inl (inr h))) = each_never at v are.types_are are.values f h
+  variables_never at v are f (inl (inr h)) = initials_never (is_bare v.type_expr v.values) at v are.types_are refl are.values f h
   variables_never at v are f (inr h) = left_never v.type_expr v.values are.types_are f h
 
   all_variables_never : (at : Pos) (vs : List ValueSpec) → AllVariablesAre text r vs → Never (AllVariablesFail text r at vs)

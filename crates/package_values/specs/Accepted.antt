@@ -13,12 +13,12 @@ use Rattle.names.specs.declared.scope.Known.TheVariants as known_as
 use Rattle.names.specs.Universe.{is_blank}
 use Rattle.names.specs.Scope.{Scope, declaration, known}
 use Rattle.names.specs.Types.{type_in}
-use Rattle.expression_types.specs.Typing.{own_type, taken, gives, seen}
+use Rattle.expression_types.specs.Typing.{own_type, taken, spec_wanted, gives, seen}
 use Rattle.package_values.specs.declared.items.Role.{Role}
 use Rattle.package_values.specs.declared.items.Role.TheVariants as role
 use Rattle.package_values.specs.Values.{Item, items_in, is_variable_type, given_by, variable_type}
 use Rattle.package_values.specs.Needs.{have_form}
-use Rattle.package_values.specs.ValueFaults.{is_this_value, is_bare, wanted}
+use Rattle.package_values.specs.ValueFaults.{is_this_value, is_bare}
 
 module _ (text : List ℕ) (s : Scope) where
   -- ---- constants
@@ -58,7 +58,7 @@ module _ (text : List ℕ) (s : Scope) where
   pub record InitialsAre (v : ValueSpec) : Type 0 where
     pub form : have_form text s v.values ≡ true
     pub xs : Exs
-    pub taken_is : taken (wanted text s v) (seen text s v.values) ≡ Some xs
+    pub taken_is : taken (spec_wanted text s v) (seen text s v.values) ≡ Some xs
 
   -- one declaration of a `var`, with values or a type alone
   pub record VariablesAre (v : ValueSpec) : Type 0 where

@@ -1,6 +1,6 @@
 -- Which rules fail in the declarations of constants and variables of a package, and where each is reported. They are looked at where what can be
 -- known of them is known.
-use Rattle.std.specs.Prelude.{◌≡◌, ◌⊎◌, ℕ, suc, ◌==◌, length, map, Bool, true, false, List, [], ◌∷◌, codes, slice_get, Option, Some, None, if◌then◌else◌}
+use Rattle.std.specs.Prelude.{◌≡◌, ◌⊎◌, ℕ, suc, ◌==◌, length, Bool, true, false, List, [], ◌∷◌, codes, slice_get, Option, Some, None, if◌then◌else◌}
 use Rattle.std.specs.Str.{bytes_eq}
 use Rattle.base.specs.declared.pos.Pos.{Pos}
 use Rattle.syntax.specs.declared.expression.Name.{Name}
@@ -20,7 +20,7 @@ use Rattle.names.specs.Universe.{is_blank}
 use Rattle.names.specs.Scope.{Scope, declaration}
 use Rattle.names.specs.Types.{type_in}
 use Rattle.names.specs.Faults.{FailsAsType}
-use Rattle.expression_types.specs.Typing.{accepts_operand, operand_in, type_in_one, Seen, are_single, seen}
+use Rattle.expression_types.specs.Typing.{wanted_by, accepts_operand, operand_in, type_in_one, Seen, are_single, spec_wanted, seen}
 use Rattle.expression_types.specs.Faults.{SinglesFail, CountFails, TakeFails, FailsInEach}
 use Rattle.package_values.specs.declared.items.Role.{Role}
 use Rattle.package_values.specs.declared.items.Role.TheVariants as role
@@ -39,7 +39,7 @@ fitting_value_fault t pos nil = Some (fault Unfit pos)
 
 abbrev pub value_fault : Option ValueType → Pos → Option Operand → Option Fault
 value_fault t pos None = None
-value_fault t pos (Some x) = if accepts_operand t x then fitting_value_fault t pos x else Some (fault Mismatch pos)
+value_fault t pos (Some x) = if accepts_operand (wanted_by t) x then fitting_value_fault t pos x else Some (fault Mismatch pos)
 
 abbrev pub ValuesFail : Option ValueType → List Seen → Fault → Type 0
 ValuesFail t [] f = ⊥
@@ -108,14 +108,10 @@ module _ (text : List ℕ) (s : Scope) where
   FormsFail none f = ⊥
   FormsFail (some e es) f = IsFault (form_fault (has_form text s e) (first_pos e)) f ⊎ FormsFail es f
 
-  -- the types that the names of a declaration ask for
-  abbrev pub wanted : ValueSpec → List (Option ValueType)
-  wanted v = map (λ n. type_asked v.type_expr) v.names
-
   -- the values of a declaration of a `var`, where there are to be some
   abbrev pub InitialsFail : Bool → Pos → ValueSpec → Fault → Type 0
   InitialsFail true pos v f = ⊥
-  InitialsFail false pos v f = TakeFails (fault WrongCount pos) (wanted v) (seen text s v.values) f ⊎ FormsFail v.values f
+  InitialsFail false pos v f = TakeFails (fault WrongCount pos) (spec_wanted text s v) (seen text s v.values) f ⊎ FormsFail v.values f
 
   -- variables of such a type: at the type that stands there, or at a value without one
   abbrev pub LeftOut : Option TreeEx → List Seen → Fault → Type 0

@@ -1,6 +1,6 @@
 //! The rules that fail in the declarations of constants and variables of a package.
 
-ghost use Rattle.std.specs.Prelude.{◌≡◌, ◌⊎◌, Option, Some, None, IfOk, map, codes};
+ghost use Rattle.std.specs.Prelude.{◌≡◌, ◌⊎◌, Option, Some, None, IfOk, codes};
 ghost use Rattle.std.specs.Option.{option_map};
 ghost use Rattle.std.specs.Str.{bytes_eq};
 ghost use Rattle.syntax.specs.Expressions.{exs_of, ex_in, spelled};
@@ -13,7 +13,7 @@ ghost use Rattle.names.specs.Scope.{scope_of, declaration};
 ghost use Rattle.expression_types.specs.Typing.{operand_in, seen};
 ghost use Rattle.expression_types.specs.Faults.{SinglesFail, CountFails, FailsInEach};
 ghost use Rattle.expression_types.specs.Passing.{gives_of, seens};
-ghost use Rattle.package_values.specs.ValueFaults.{single_count, fitting_value_fault, value_fault, ValuesFail, is_this_value, value_name_fault, type_asked, TypeFails, SpecFails, SpecsFail, form_fault, FormsFail, left_out_fault, ValuesLeftOut, LeftOut, wanted, is_bare, InitialsFail, VariablesFail, AllVariablesFail, first_of, cycle_place, DeclarationsFail, NamesFail, Recurs, ItemsFail};
+ghost use Rattle.package_values.specs.ValueFaults.{single_count, fitting_value_fault, value_fault, ValuesFail, is_this_value, value_name_fault, type_asked, TypeFails, SpecFails, SpecsFail, form_fault, FormsFail, left_out_fault, ValuesLeftOut, LeftOut, is_bare, InitialsFail, VariablesFail, AllVariablesFail, first_of, cycle_place, DeclarationsFail, NamesFail, Recurs, ItemsFail};
 ghost use Rattle.package_values.specs.Passing.{item_views, DeclarationFails, recursion_fault, is_marked};
 
 use crate::items::{Item, Role, items_in};
@@ -22,7 +22,8 @@ use crate::values::{constant_in, is_variable_type};
 use base::{NoMemory, Pos, ValueType};
 use components::strong_components;
 use expression_types::{
-    agrees, are_single, check_list, count_fault, is_single, one_type, singles_fault, take_fault,
+    agrees, are_single, check_list, count_fault, is_single, one_type, singles_fault, spec_wanted,
+    take_fault, wanted_by,
 };
 use names::{Declared, Scope, is_blank, spelled, type_fault, type_in};
 use operators::held_fault;
@@ -67,7 +68,7 @@ fn value_fault(value_type: Option<ValueType>, item: &expression_types::Item) -> 
     if !is_single(&item.gives) {
         return None;
     }
-    if !agrees(value_type, &item.gives) {
+    if !agrees(wanted_by(value_type), &item.gives) {
         return Some(Fault {
             kind: FaultKind::Mismatch,
             pos: item.pos,
@@ -198,30 +199,6 @@ fn left_out(
     }
 }
 
-/// A type for each of some names.
-fn for_each_name(
-    alloc: Global,
-    value_type: Option<ValueType>,
-    names: &[Name],
-) -> Result<Vec<Option<ValueType>>, NoMemory>
-    ensures { IfOk result (λ v. v.items ≡ map (λ n. value_type) names.now) }
-{
-    Ok(names.iter().map(|_| value_type).collect(alloc)?)
-}
-
-/// The types that the names of a declaration ask for.
-fn wanted(
-    alloc: Global,
-    text: &[u8],
-    scope: &Scope,
-    spec: &ValueSpec,
-) -> Result<Vec<Option<ValueType>>, NoMemory>
-    ensures { IfOk result (λ v. v.items ≡ wanted text.now (scope_of scope.now) (value_spec_of spec.now)) }
-{
-    let value_type = type_asked(text, scope, &spec.type_expr);
-    for_each_name(alloc, value_type, &spec.names)
-}
-
 /// Whether a variable begins with the zero value of the type that stands there.
 fn is_bare(type_expr: &Option<Expr>, values: &[Expr]) -> bool
     ensures { result ≡ is_bare (ex_in type_expr.now) (exs_of values.now) }
@@ -251,7 +228,7 @@ fn initials_fault(
         kind: FaultKind::WrongCount,
         pos,
     };
-    let wanted = wanted(alloc, text, scope, spec)?;
+    let wanted = spec_wanted(alloc, text, scope, spec)?;
     let taken = take_fault(own, &wanted, items);
     Ok(lesser(taken, forms_fault(text, scope, &spec.values)))
 }

@@ -31,7 +31,9 @@ use Rattle.names.specs.Universe.{is_blank}
 use Rattle.names.specs.Scope.{Scope, type_number, type_tree, type_trees, is_here, with_variable, with_strings}
 use Rattle.names.specs.Naming.{name_in}
 use Rattle.names.proofs.Trees.{int_tree}
-use Rattle.expression_types.specs.Typing.{Part, said, valued, Gives, one, called, asking, quoted, printed, panicked, exited, operand_in, Seen, value_types, asked, taken, gives, seen}
+use Rattle.expression_types.specs.declared.wants.Wanted.{Wanted}
+use Rattle.expression_types.specs.declared.wants.Wanted.TheVariants.{Own, Typed, Unknown}
+use Rattle.expression_types.specs.Typing.{Part, said, valued, Gives, one, called, asking, quoted, printed, panicked, exited, operand_in, Seen, value_types, asked, taken, gives, seen, wanted_by}
 use Rattle.expression_types.proofs.InForm.{Agrees, AreAccepted, PartFits, PartsFit, GivesFit, AllFit, OperandFits, CallFits, value_fits, operand_fits, taken_fits, asked_types, gives_fit, seen_fit, maybe_fits}
 use Rattle.signatures.specs.declared.slots.Slot.{Slot}
 use Rattle.signatures.specs.Entries.{slot_with, slots_each}
@@ -62,17 +64,20 @@ DeclaresNone other = Unit {0}
 
 -- ---- places that accept values
 
-accepted_head : (w : Option ValueType) (ps : List (Option ValueType)) (t : ValueType) (ts : List ValueType) → AreAccepted (w ∷ ps) (t ∷ ts) → ((u : ValueType) → w ≡ Some u → u ≡ t) × AreAccepted ps ts
-accepted_head None ps t ts all = (λ u is. absurd (none_some is), all)
-accepted_head (Some s) ps t ts all = (λ u is. sym (same_some is) ∙ all.0, all.1)
+accepted_head : (w : Wanted) (ps : List Wanted) (t : ValueType) (ts : List ValueType) → AreAccepted (w ∷ ps) (t ∷ ts) → ((u : ValueType) → w ≡ Typed u → u ≡ t) × AreAccepted ps ts
+accepted_head Own ps t ts all = (λ u is. cc is, all)
+accepted_head Unknown ps t ts all = (λ u is. cc is, all)
+accepted_head (Typed s) ps t ts all = (λ u is. let same1 : s ≡ u = cc is in sym same1 ∙ all.0, all.1)
 
-pub accepted_long : (ps : List (Option ValueType)) (ts : List ValueType) → AreAccepted ps ts → length ts ≡ length ps
+pub accepted_long : (ps : List Wanted) (ts : List ValueType) → AreAccepted ps ts → length ts ≡ length ps
 accepted_long [] [] all = refl
-accepted_long (None ∷ ps) (t ∷ ts) all = ap suc (accepted_long ps ts all)
-accepted_long (Some s ∷ ps) (t ∷ ts) all = ap suc (accepted_long ps ts all.1)
+accepted_long (Own ∷ ps) (t ∷ ts) all = ap suc (accepted_long ps ts all)
+accepted_long (Unknown ∷ ps) (t ∷ ts) all = ap suc (accepted_long ps ts all)
+accepted_long (Typed s ∷ ps) (t ∷ ts) all = ap suc (accepted_long ps ts all.1)
 accepted_long [] (t ∷ ts) all = absurd all
-accepted_long (None ∷ ps) [] all = absurd all
-accepted_long (Some s ∷ ps) [] all = absurd all
+accepted_long (Own ∷ ps) [] all = absurd all
+accepted_long (Unknown ∷ ps) [] all = absurd all
+accepted_long (Typed s ∷ ps) [] all = absurd all
 
 arithmetic_is : (tree_op : ArithmeticOp) → IsArithmetic (arithmetic_of tree_op)
 arithmetic_is arithmetic.Add = tt
@@ -106,9 +111,9 @@ module _ (T : Table) (p : Program) where
   target_old scope None t l has wants is = absurd (none_some is)
   target_old scope (Some v) t l has wants is = inr (v.place, sym (same_some is), subst (λ (u : ValueType). PlFits p scope (type_tree T u) v.place) (wants v.value_type refl) (has v refl))
 
-  left_old : (scope : List ℕ) (b : Bool) (o : Option TypedPlace) (t : ValueType) (l : Left) → Known scope o → ((u : ValueType) → wanted_of b o ≡ Some u → u ≡ t) → left_of b o ≡ Some l → IsOld scope t l
+  left_old : (scope : List ℕ) (b : Bool) (o : Option TypedPlace) (t : ValueType) (l : Left) → Known scope o → ((u : ValueType) → wanted_of b o ≡ Typed u → u ≡ t) → left_of b o ≡ Some l → IsOld scope t l
   left_old scope true o t l has wants is = inl (sym (same_some is))
-  left_old scope false o t l has wants is = target_old scope o t l has wants is
+  left_old scope false o t l has wants is = target_old scope o t l has (λ u e. wants u (ap wanted_by e)) is
 
   -- left sides without new variables
   pub record OldFit (scope : List ℕ) (ts : List ValueType) (ls : List Left) : Type 0 where
@@ -125,7 +130,7 @@ module _ (T : Table) (p : Program) where
     abbrev KnownAll : Scope → List ℕ → Type 0
     KnownAll s scope = (e : TreeEx) → Known scope (place_in text s e)
 
-    side_old : (s : Scope) (scope : List ℕ) (known : KnownAll s scope) (e : TreeEx) (t : ValueType) (l : Left) → ((u : ValueType) → wanted text s e ≡ Some u → u ≡ t) → left text s e ≡ Some l → IsOld scope t l
+    side_old : (s : Scope) (scope : List ℕ) (known : KnownAll s scope) (e : TreeEx) (t : ValueType) (l : Left) → ((u : ValueType) → wanted text s e ≡ Typed u → u ≡ t) → left text s e ≡ Some l → IsOld scope t l
     side_old s scope known e t l wants is = left_old scope (is_blank_name text (name_in e)) (place_in text s e) t l (known e) wants is
 
     pub lefts_fit : (s : Scope) (scope : List ℕ) (known : KnownAll s scope) (es : TreeExs) (ts : List ValueType) (ls : List Left) → AreAccepted (all_wanted text s es) ts → lefts text s es ≡ Some ls → OldFit scope ts ls
@@ -186,7 +191,7 @@ module _ (T : Table) (p : Program) where
           Later = (s2 : Scope) (scope2 : List ℕ) (ls2 : List Left) → s2.types ≡ T → Visible s2 scope2 → new_lefts text s0 (length s2.sites) ns ≡ Some ls2 → length (with_variables text s2 rest_slots).sites ≤ n → Extends (with_variables text s2 rest_slots).sites all
               → NewFit scope0 s2 scope2 rest_slots ts ls2 n
 
-          by : (b h : Bool) (l : Left) (rest : List Left) → ((u : ValueType) → new_wanted_of b h (place_in text s0 (expressions.name x)) ≡ Some u → u ≡ t)
+          by : (b h : Bool) (l : Left) (rest : List Left) → ((u : ValueType) → new_wanted_of b h (place_in text s0 (expressions.name x)) ≡ Typed u → u ≡ t)
               → new_left_of b h (place_in text s0 (expressions.name x)) (length s.sites) ≡ Some l
               → new_lefts text s0 (cond (not b && not h) (1 + length s.sites) (length s.sites)) ns ≡ Some rest
               → length (with_variables text s (cond (not b && not h) (slot_with (Some t) x ∷ rest_slots) rest_slots)).sites ≤ n
@@ -194,7 +199,7 @@ module _ (T : Table) (p : Program) where
               → NewFit scope0 s scope (cond (not b && not h) (slot_with (Some t) x ∷ rest_slots) rest_slots) (t ∷ ts) (l ∷ rest) n
           by true h l rest wants l_is rest_is le1 ext1 later = old_left scope0 s scope rest_slots t ts l rest n (inl (sym (same_some l_is))) (later s scope rest types_are visible rest_is le1 ext1)
           by false true l rest wants l_is rest_is le1 ext1 later =
-              old_left scope0 s scope rest_slots t ts l rest n (target_old scope0 (place_in text s0 (expressions.name x)) t l (known0 (expressions.name x)) wants l_is) (later s scope rest types_are visible rest_is le1 ext1)
+              old_left scope0 s scope rest_slots t ts l rest n (target_old scope0 (place_in text s0 (expressions.name x)) t l (known0 (expressions.name x)) (λ u e. wants u (ap wanted_by e)) l_is) (later s scope rest types_are visible rest_is le1 ext1)
           by false false l rest wants l_is rest_is le1 ext1 later =
               let s1 = with_variable (Some t) s (spelled text x) x.pos in
               let one1 : length s1.sites ≡ length s.sites + 1 = length-append s.sites (record { pos = x.pos; type_id = record { 0 = type_number s.types t } } ∷ []) in
@@ -236,7 +241,7 @@ module _ (T : Table) (text : List ℕ) (p : Program) (all : List Site) (has : Ha
     return_still looped scope r goes formed (o ∷ os) t fits is =
         let q = map_some return_stmt (taken r.wanted (o ∷ os)) t is in
         let f = taken_fits T p scope formed r.wanted (o ∷ os) q.0 fits q.1 in
-        let same1 = asked_types goes.types f.types (subst (λ (l : List (Option ValueType)). AreAccepted l f.types) goes.wanted f.accepted) in
+        let same1 = asked_types goes.types f.types (subst (λ (l : List Wanted). AreAccepted l f.types) goes.wanted f.accepted) in
         let whole : ExsFit p scope wanted1 q.0 = subst (λ (l : List TypeTree). ExsFit p scope l q.0) (ap (type_trees T) (sym same1) ∙ goes.trees) f.fit in
         subst (λ (x : St). Still looped scope x) q.2 (refl, λ m n. by wanted1 goes.no_values q.0 whole, refl)
       where

@@ -1,5 +1,5 @@
 -- Expressions and names that are gone through one by one.
-use Rattle.std.proofs.Common.{◌≡◌, ℕ, Bool, true, false, ◌<◌, get_or, drop, map, length, List, [], ◌∷◌, Option, Some, None, sym, ap, refl, arith}
+use Rattle.std.proofs.Common.{◌≡◌, ℕ, Bool, true, false, ◌<◌, get_or, drop, length, List, [], ◌∷◌, Option, Some, None, sym, ap, refl, arith}
 use Rattle.std.specs.Prelude.{◌==◌, slice_get}
 use Rattle.std.specs.Option.{option_map}
 use Rattle.std.proofs.lemmas.Bool.{eqb-true}
@@ -8,8 +8,6 @@ use Rattle.syntax.specs.declared.expression.Name.{Name}
 use Rattle.syntax.specs.Expressions.{Ex as TreeEx, Exs as TreeExs, some, ex_of, exs_of}
 use Rattle.base.specs.declared.value_type.ValueType.{ValueType}
 use Rattle.names.specs.Scope.{Scope}
-use Rattle.signatures.specs.declared.slots.Slot.{Slot}
-use Rattle.signatures.specs.Entries.{slot_with}
 use Rattle.simple_statements.specs.SimpleStatements.{only, is_bare, spec_slots_of}
 
 -- the first one of some expressions
@@ -24,11 +22,6 @@ bare_is e (x ∷ xs) = by (length (x ∷ xs) == 0) refl
     by : (b : Bool) → (length (x ∷ xs) == 0) ≡ b → false ≡ b
     by false is = refl
     by true is = let none : length (x ∷ xs) ≡ 0 = eqb-true (length (x ∷ xs)) 0 is in absurd (omega (arith, none))
-
--- the types of names that share one
-pub types_with : (t : Option ValueType) (ns : List Name) → map (λ (p : Slot). p.value_type) (map (slot_with t) ns) ≡ map (λ (n : Name). t) ns
-types_with t [] = refl
-types_with t (n ∷ ns) = ap (λ l. t ∷ l) (types_with t ns)
 
 -- with a type that stands there, the types of values don't matter
 pub bare_slots : (text : List ℕ) (s : Scope) (o : Option TreeEx) (es : TreeExs) (ts us : Option (List ValueType)) (ns : List Name) → is_bare o es ≡ true → spec_slots_of text s o ts ns ≡ spec_slots_of text s o us ns

@@ -38,14 +38,15 @@ use Rattle.names.specs.declared.scope.Known.TheVariants as known_as
 use Rattle.names.specs.Scope.{Scope, declaration, is_here, known}
 use Rattle.names.specs.Naming.{name_in}
 use Rattle.names.proofs.Settled.{IsKnown, IsTyped, IsSettled, declared_typed}
-use Rattle.expression_types.specs.Typing.{global_read, constant_read, name_operand, Gives, one, called, asking, quoted, printed, panicked, exited, operand_in, Seen, many, count, taken, gives, seen}
+use Rattle.expression_types.specs.Typing.{global_read, constant_read, name_operand, Gives, one, called, asking, quoted, printed, panicked, exited, operand_in, Seen, wanted_by, many, count, taken, gives, seen}
 use Rattle.expression_types.specs.Faults.{refused_fault, ValuesFail, CountFails, TakeFails, Fails, FailsInEach, FailsAsOperand}
 use Rattle.expression_types.proofs.DecidedValues.{given_all, operand_decided, take_decided, refused}
 use Rattle.expression_types.proofs.Settled.{gives_decided, seen_decided}
+use Rattle.expression_types.proofs.Places.{Asks, AllAsk}
 use Rattle.signatures.specs.Entries.{slots_each}
 use Rattle.signatures.specs.Failing.{fault_where}
 use Rattle.signatures.proofs.SettledEntries.{where_tested, some_tested}
-use Rattle.simple_statements.specs.SimpleStatements.{Returns, only, place_value, left_of, is_blank_name, place_in, new_left_of, declares, noted, is_noted, expressed, assignment, updated, stepped, returned, left, lefts, all_wanted, new_left, new_lefts, all_new_wanted, new_slots, with_variables, are_distinct, has_all, may_define, own_value, behind_simple, update_one, update_statement, step_statement, simple_statement}
+use Rattle.simple_statements.specs.SimpleStatements.{Returns, only, target, place_type, place_value, left_of, wanted_of, new_wanted_of, is_blank_name, place_in, new_left_of, declares, noted, is_noted, expressed, assignment, updated, stepped, returned, left, lefts, all_wanted, new_left, new_lefts, all_new_wanted, new_slots, with_variables, are_distinct, has_all, may_define, own_value, behind_simple, update_one, update_statement, step_statement, simple_statement}
 use Rattle.simple_statements.specs.SimpleFaults.{left_fault, new_name_fault, own_fault, place_fault, names_place, lefts_place, use_fault, step_fault, ReturnFails, LeftSideFails, LeftsFail, OwnSideFails, OwnSidesFail, NewNamesFail, TwiceFails, FailsInAssignment, FailsInDefinition, have_values, given_count, UpdateFails, FailsInStep, FailsInSimple}
 use Rattle.simple_statements.proofs.SettledValues.{settled_new, allowed_is, taken_types_are}
 
@@ -96,6 +97,21 @@ new_left_decided s true is_here d site at typed = λ f h. h
 new_left_decided s false true d site at typed = left_decided s false d at at typed
 new_left_decided s false false d site at typed = λ f h. h
 
+-- what is a left side has a type, or is blank
+target_asks : (q : Option TypedPlace) (l : Left) → target q ≡ Some l → Asks (wanted_by (place_type q))
+target_asks None l is = absurd (none_some is)
+target_asks (Some q) l is = tt
+
+left_asks : (is_blank : Bool) (q : Option TypedPlace) (l : Left) → left_of is_blank q ≡ Some l → Asks (wanted_of is_blank q)
+left_asks true q l is = tt
+left_asks false q l is = target_asks q l is
+
+new_left_asks : (is_blank is_here : Bool) (q : Option TypedPlace) (site : ℕ) (l : Left) → new_left_of is_blank is_here q site ≡ Some l → Asks (new_wanted_of is_blank is_here q)
+new_left_asks true true q site l is = tt
+new_left_asks true false q site l is = tt
+new_left_asks false true q site l is = target_asks q l is
+new_left_asks false false q site l is = tt
+
 -- an expression whose place is asked for
 place_decided : {A : Type 0} (h : TypedPlace → A) (o : Option Operand) (P : Fault → Type 0) (at : Pos) → Decided o P → Decided (option_map h (option_and_then place_of o)) (λ f. P f ⊎ IsFault (place_fault o at) f)
 place_decided h None P at d = (d.0, inl d.1)
@@ -117,28 +133,21 @@ pub where_some : {A : Type 0} (b : Bool) (o : Option A) (x : A) → cond b o Non
 where_some true o x is = (refl, is)
 where_some false o x is = cc is
 
-assign_decided : (ls : Option (List Left)) (v : Option Exs) (c : Option ℕ) (n : ℕ) (own : Fault) (L E VR : Fault → Type 0) → Decided ls L → Decided v (λ f. E f ⊎ (VR f ⊎ CountFails c n own f))
+assign_decided : (ls : Option (List Left)) (v : Option Exs) (c : Option ℕ) (n : ℕ) (own : Fault) (L E VR : Fault → Type 0) → Decided ls L → ((l : List Left) → ls ≡ Some l → Decided v (λ f. E f ⊎ (VR f ⊎ CountFails c n own f)))
     → Decided (assignment ls v) (λ f. (L f ⊎ E f) ⊎ (VR f ⊎ CountFails (option_and_then (λ l. c) ls) n own f))
 assign_decided None v c n own L E VR d e = (d.0, inl (inl d.1))
-assign_decided (Some l) None c n own L E VR d e = (e.0, elim e.1 [ inl h ↦ inl (inr h) | inr h ↦ inr h ])
+assign_decided (Some l) None c n own L E VR d e = let r = e l refl in (r.0, elim r.1 [ inl h ↦ inl (inr h) | inr h ↦ inr h ])
 assign_decided (Some l) (Some v) c n own L E VR d e = λ f h. elim h [
-  | inl k ↦ elim k [ inl u ↦ d f u | inr u ↦ e f (inl u) ]
-  | inr k ↦ e f (inr k)
+  | inl k ↦ elim k [ inl u ↦ d f u | inr u ↦ e l refl f (inl u) ]
+  | inr k ↦ e l refl f (inr k)
 ]
 
-define_decided : (may : Bool) (ls : Option (List Left)) (v : Option Exs) (V N T : Fault → Type 0) → Tested may T → (is_some v ≡ true → Decided ls N) → Decided v V
+define_decided : (may : Bool) (ls : Option (List Left)) (v : Option Exs) (V N T : Fault → Type 0) → Tested may T → Decided ls N → ((l : List Left) → ls ≡ Some l → Decided v V)
     → Decided (cond may (assignment ls v) None) (λ f. (V f ⊎ N f) ⊎ T f)
 define_decided false ls v V N T t n d = (t.0, inr t.1)
-define_decided true ls None V N T t n d = by ls
-  where
-    by : (l : Option (List Left)) → Decided (assignment l None) (λ f. (V f ⊎ N f) ⊎ T f)
-    by None = (d.0, inl (inl d.1))
-    by (Some l) = (d.0, inl (inl d.1))
-define_decided true ls (Some v) V N T t n d = by ls (n refl)
-  where
-    by : (l : Option (List Left)) → Decided l N → Decided (assignment l (Some v)) (λ f. (V f ⊎ N f) ⊎ T f)
-    by None e = (e.0, inl (inr e.1))
-    by (Some l) e = λ f h. elim h [ inl k ↦ elim k [ inl u ↦ d f u | inr u ↦ e f u ] | inr k ↦ t f k ]
+define_decided true None v V N T t n d = (n.0, inl (inr n.1))
+define_decided true (Some l) None V N T t n d = let r = d l refl in (r.0, inl (inl r.1))
+define_decided true (Some l) (Some v) V N T t n d = λ f h. elim h [ inl k ↦ elim k [ inl u ↦ d l refl f u | inr u ↦ n f u ] | inr k ↦ t f k ]
 
 use_decided : (n : ℕ) (o : Option Gives) (at : Pos) (P : Fault → Type 0) → Decided o P → Decided (option_and_then (expressed n) o) (λ f. P f ⊎ IsFault (use_fault o at) f)
 use_decided n None at P d = (d.0, inl d.1)
@@ -150,13 +159,13 @@ use_decided n (Some (printed place line ps)) at P d = λ f h. elim h [ inl k ↦
 use_decided n (Some (panicked place p)) at P d = λ f h. elim h [ inl k ↦ d f k | inr k ↦ k ]
 use_decided n (Some (exited place e)) at P d = λ f h. elim h [ inl k ↦ d f k | inr k ↦ k ]
 
-pub return_decided : (at : Pos) (r : Returns) (os : List Seen) (P : Fault → Type 0) → Decided (given_all os) P → Decided (returned r os) (λ f. P f ⊎ ReturnFails at r os f)
-return_decided at r [] P d = further P (ReturnFails at r []) (cond r.may_be_bare (Some (return_stmt none)) None) d (by r.may_be_bare)
+pub return_decided : (at : Pos) (r : Returns) (os : List Seen) (P : Fault → Type 0) → AllAsk r.wanted → Decided (given_all os) P → Decided (returned r os) (λ f. P f ⊎ ReturnFails at r os f)
+return_decided at r [] P asks d = further P (ReturnFails at r []) (cond r.may_be_bare (Some (return_stmt none)) None) d (by r.may_be_bare)
   where
     by : (b : Bool) → Decided (cond b (Some (return_stmt none)) None) (IsFault (fault_where (not b) (fault ResultCount at)))
     by true = λ f h. h
     by false = (fault ResultCount at, refl)
-return_decided at r (o ∷ os) P d = mapped return_stmt (taken r.wanted (o ∷ os)) _ (take_decided (o ∷ os) P d (fault ResultCount at) r.wanted)
+return_decided at r (o ∷ os) P asks d = mapped return_stmt (taken r.wanted (o ∷ os)) _ (take_decided (o ∷ os) P d (fault ResultCount at) r.wanted asks)
 
 -- ---- variables that are given values of their own
 
@@ -286,6 +295,23 @@ module _ (text : List ℕ) where
       (new_left_decided s (is_blank bytes) (is_here s bytes) (declaration s bytes) site n.pos (λ x is. declared_typed s settled bytes x is)))
       (λ l is. mapped (λ ls. l ∷ ls) (new_lefts text s behind1 ns) (NewNamesFail text s ns) (new_lefts_decided s settled behind1 ns))
 
+  -- left sides that are places have types
+  lefts_ask : (s : Scope) (ls : TreeExs) (l : List Left) → lefts text s ls ≡ Some l → AllAsk (all_wanted text s ls)
+  lefts_ask s expressions.none l is = tt
+  lefts_ask s (some e es) l is =
+      let r = and_then_some (λ x. option_map (λ xs. x ∷ xs) (lefts text s es)) (left text s e) l is in
+      let q = map_some (λ xs. r.0 ∷ xs) (lefts text s es) l r.2 in
+      (left_asks (is_blank_name text (name_in e)) (place_in text s e) r.0 r.1, lefts_ask s es q.0 q.1)
+
+  new_names_ask : (s : Scope) (site : ℕ) (ns : List Name) (l : List Left) → new_lefts text s site ns ≡ Some l → AllAsk (all_new_wanted text s ns)
+  new_names_ask s site [] l is = tt
+  new_names_ask s site (n ∷ ns) l is =
+      let bytes = spelled text n in
+      let behind1 = cond (declares s bytes) (1 + site) site in
+      let r = and_then_some (λ x. option_map (λ xs. x ∷ xs) (new_lefts text s behind1 ns)) (new_left text s site n) l is in
+      let q = map_some (λ xs. r.0 ∷ xs) (new_lefts text s behind1 ns) l r.2 in
+      (new_left_asks (is_blank bytes) (is_here s bytes) (place_in text s (expressions.name n)) site r.0 r.1, new_names_ask s behind1 ns q.0 q.1)
+
   pub distinct_tested : (names : Blocks) (ns : List Name) → Tested (are_distinct text names ns) (TwiceFails text names ns)
   distinct_tested names [] = λ f h. h
   distinct_tested names (n ∷ ns) =
@@ -299,13 +325,14 @@ module _ (text : List ℕ) where
       define_decided (may_define text s ns) (new_lefts text s (length s.sites) ns) v (λ f. FailsInEach text s es f ⊎ TakeFails (fault WrongCount (names_place ns at)) (all_new_wanted text s ns) (seen text s es) f)
       (NewNamesFail text s ns) (λ f. TwiceFails text ([] ∷ []) ns f ⊎ IsFault (fault_where (has_all text s ns) (fault NothingNew at)) f)
       (both_tested (TwiceFails text ([] ∷ []) ns) (IsFault (fault_where (has_all text s ns) _)) (are_distinct text ([] ∷ []) ns) (not (has_all text s ns)) (distinct_tested ([] ∷ []) ns) (where_tested (has_all text s ns) _))
-      (λ is. new_lefts_decided s settled (length s.sites) ns)
-      (take_decided (seen text s es) (FailsInEach text s es) (seen_decided text s settled es) (fault WrongCount (names_place ns at)) (all_new_wanted text s ns))
+      (new_lefts_decided s settled (length s.sites) ns)
+      (λ l is. take_decided (seen text s es) (FailsInEach text s es) (seen_decided text s settled es) (fault WrongCount (names_place ns at)) (all_new_wanted text s ns) (new_names_ask s (length s.sites) ns l is))
 
   assign_statement : (s : Scope) (ls : TreeExs) (at : Pos) (es : TreeExs) → IsSettled s → Decided (assignment (lefts text s ls) (taken (all_wanted text s ls) (seen text s es))) (FailsInAssignment text s ls at es)
   assign_statement s ls at es settled =
       assign_decided (lefts text s ls) (taken (all_wanted text s ls) (seen text s es)) (count (seen text s es)) (length (all_wanted text s ls)) (fault WrongCount (lefts_place ls at)) (LeftsFail text s ls) (FailsInEach text s es) _
-      (lefts_decided s settled ls) (take_decided (seen text s es) (FailsInEach text s es) (seen_decided text s settled es) (fault WrongCount (lefts_place ls at)) (all_wanted text s ls))
+      (lefts_decided s settled ls)
+      (λ l is. take_decided (seen text s es) (FailsInEach text s es) (seen_decided text s settled es) (fault WrongCount (lefts_place ls at)) (all_wanted text s ls) (lefts_ask s ls l is))
 
   update_one_decided : (s : Scope) (at : Pos) (tree_op : ArithmeticOp) (e v : TreeEx) → IsSettled s
       → Decided (update_one text s at tree_op e v)

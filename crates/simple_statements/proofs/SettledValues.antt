@@ -13,6 +13,7 @@ use Rattle.operators.specs.Operands.{type_of, as_value}
 use Rattle.expression_types.proofs.InForm.{typed_value}
 use Rattle.names.specs.Scope.{Scope}
 use Rattle.names.proofs.Settled.{IsSettled}
+use Rattle.expression_types.specs.declared.wants.Wanted.{Wanted}
 use Rattle.expression_types.specs.Typing.{Seen, Many, type_in_one, fits_with, all_values, types_with, many, operand_in, value_in, values, single_types, value_types, values_agree, types_agree, each, taken}
 use Rattle.signatures.specs.declared.slots.Slot.{Slot}
 use Rattle.signatures.specs.Entries.{slots_each}
@@ -41,7 +42,7 @@ types_of_values (o ∷ os) xs is =
     (t.0 ∷ rest.0, ap (option_and_then (λ t. option_map (λ ts. t ∷ ts) (single_types os))) one ∙ ap (option_map (λ ts. t.0 ∷ ts)) rest.1, ap suc rest.2)
 
 -- there are as many as places
-pub types_taken : (ps : List (Option ValueType)) (os : List Seen) (es : Exs) → taken ps os ≡ Some es → (ts : List ValueType) × (value_types os ≡ Some ts) × (length ts ≡ length ps)
+pub types_taken : (ps : List Wanted) (os : List Seen) (es : Exs) → taken ps os ≡ Some es → (ts : List ValueType) × (value_types os ≡ Some ts) × (length ts ≡ length ps)
 types_taken ps os es is = by (many os) is
   where
     by : (m : Option Many) → allowed (fits_with ps os m) (all_values os m) ≡ Some es → (ts : List ValueType) × (types_with os m ≡ Some ts) × (length ts ≡ length ps)
@@ -55,7 +56,7 @@ types_taken ps os es is = by (many os) is
         let a = allowed_is ((length m.types == length ps) && types_agree ps m.types) (all_values os (Some m)) es is1 in
         (m.types, refl, eqb-true (length m.types) (length ps) (both_true (length m.types == length ps) (types_agree ps m.types) a.0).0)
 
-pub taken_types_are : (ps : List (Option ValueType)) (os : List Seen) (es : Exs) → taken ps os ≡ Some es → (ts : List ValueType) × (taken_types ps os ≡ Some ts) × (length ts ≡ length ps)
+pub taken_types_are : (ps : List Wanted) (os : List Seen) (es : Exs) → taken ps os ≡ Some es → (ts : List ValueType) × (taken_types ps os ≡ Some ts) × (length ts ≡ length ps)
 taken_types_are ps os es is =
     let t = types_taken ps os es is in
     (t.0, ap (option_and_then (λ v. value_types os)) is ∙ t.1, t.2)

@@ -23,12 +23,12 @@ use Rattle.names.specs.Universe.{is_blank}
 use Rattle.names.specs.Scope.{Scope, declaration, is_here}
 use Rattle.names.specs.Naming.{name_in}
 use Rattle.names.specs.Faults.{FailsAsType}
-use Rattle.expression_types.specs.Typing.{Gives, one, called, asking, quoted, printed, panicked, exited, operand_in, Seen, many, count, gives, seen}
+use Rattle.expression_types.specs.Typing.{Gives, one, called, asking, quoted, printed, panicked, exited, operand_in, Seen, many, count, spec_wanted, gives, seen}
 use Rattle.expression_types.specs.Faults.{refused_fault, ValuesFail, PlacedFail, CountFails, TakeFails, Fails, FailsInEach, FailsAsOperand}
 use Rattle.signatures.specs.declared.entries.Role.TheVariants.{Parameter}
 use Rattle.signatures.specs.EntryFaults.{EntriesFail}
 use Rattle.signatures.specs.Failing.{fault_where}
-use Rattle.simple_statements.specs.SimpleStatements.{Returns, only, noted, is_noted, lefts, all_wanted, all_new_wanted, has_all, own_value, is_bare, spec_wanted, spec_slots, behind_spec}
+use Rattle.simple_statements.specs.SimpleStatements.{Returns, only, noted, is_noted, lefts, all_wanted, all_new_wanted, has_all, own_value, is_bare, spec_slots, behind_spec}
 
 -- ---- left sides
 

@@ -25,15 +25,17 @@ use Rattle.names.specs.Universe.{is_blank}
 use Rattle.names.specs.Scope.{Scope, is_here, with_variable, with_strings}
 use Rattle.names.specs.Naming.{name_in}
 use Rattle.names.specs.Types.{type_in}
-use Rattle.expression_types.specs.Typing.{Part, said, valued, Gives, one, called, asking, quoted, printed, panicked, exited, operand_in, Seen, value_types, taken, gives, seen}
+use Rattle.expression_types.specs.declared.wants.Wanted.{Wanted}
+use Rattle.expression_types.specs.declared.wants.Wanted.TheVariants as wants
+use Rattle.expression_types.specs.Typing.{Part, said, valued, Gives, one, called, asking, quoted, printed, panicked, exited, operand_in, Seen, wanted_by, value_types, taken, spec_wanted, gives, seen}
 use Rattle.signatures.specs.declared.slots.Slot.{Slot}
 use Rattle.signatures.specs.declared.entries.Role.TheVariants.{Parameter}
 use Rattle.signatures.specs.Entries.{sites_of, entry_left, slot_with, slots_each, entries, behind_entries}
 use Rattle.simple_statements.specs.declared.statements.Returns.{Returns as ReturnsData}
 
--- what a function gives back: the types of its values, where they are known, and whether a `return` may have none
+-- what a function gives back: what the places of its values ask for, and whether a `return` may have none
 pub record Returns : Type 0 where
-  pub wanted : List (Option ValueType)
+  pub wanted : List Wanted
   pub may_be_bare : Bool
 
 abbrev pub returns_view : ReturnsData → Returns
@@ -47,7 +49,7 @@ only (some e (some g es)) = None
 
 -- ---- left sides
 
--- a place as a left side, the type that it asks for, and its value
+-- a place as a left side, its type, and its value
 abbrev pub target : Option TypedPlace → Option Left
 target p = option_map (λ x. to x.place) p
 
@@ -57,19 +59,19 @@ place_type p = option_map (λ x. x.value_type) p
 abbrev pub place_value : Option TypedPlace → Option Operand
 place_value p = option_map (λ x. value x.value_type (read x.place)) p
 
--- a left side of `=`, and the type that it asks for
+-- a left side of `=`, and what it asks for: nothing is known of that where it is no place
 abbrev pub left_of : (is_blank : Bool) → Option TypedPlace → Option Left
 left_of is_blank p = if is_blank then Some blank else target p
 
-abbrev pub wanted_of : (is_blank : Bool) → Option TypedPlace → Option ValueType
-wanted_of is_blank p = if is_blank then None else place_type p
+abbrev pub wanted_of : (is_blank : Bool) → Option TypedPlace → Wanted
+wanted_of is_blank p = if is_blank then wants.Own else wanted_by (place_type p)
 
 -- a left side of `:=`: a variable that the block has, or a new one with the next site
 abbrev pub new_left_of : (is_blank is_here : Bool) → Option TypedPlace → ℕ → Option Left
 new_left_of is_blank is_here p site = if is_blank then Some blank else (if is_here then target p else Some (new site))
 
-abbrev pub new_wanted_of : (is_blank is_here : Bool) → Option TypedPlace → Option ValueType
-new_wanted_of is_blank is_here p = if is_here then wanted_of is_blank p else None
+abbrev pub new_wanted_of : (is_blank is_here : Bool) → Option TypedPlace → Wanted
+new_wanted_of is_blank is_here p = if is_here then wanted_of is_blank p else wants.Own
 
 -- whether a `:=` declares the name
 abbrev pub declares : Scope → List ℕ → Bool
@@ -83,7 +85,7 @@ abbrev pub is_noted : Blocks → List ℕ → Bool
 is_noted names n = not (is_blank n) && is_some (innermost names n)
 
 -- the types of the values at these places
-abbrev pub taken_types : List (Option ValueType) → List Seen → Option (List ValueType)
+abbrev pub taken_types : List Wanted → List Seen → Option (List ValueType)
 taken_types places os = option_and_then (λ v. value_types os) (taken places os)
 
 -- ---- statements of their parts
@@ -167,15 +169,15 @@ module _ (text : List ℕ) where
   abbrev pub left : Scope → TreeEx → Option Left
   left s e = left_of (is_blank_name (name_in e)) (place_in s e)
 
-  abbrev pub wanted : Scope → TreeEx → Option ValueType
+  abbrev pub wanted : Scope → TreeEx → Wanted
   wanted s e = wanted_of (is_blank_name (name_in e)) (place_in s e)
 
-  -- the left sides of `=`, where each is a place with a type or blank, and the types that they ask for
+  -- the left sides of `=`, where each is a place with a type or blank, and what they ask for
   abbrev pub lefts : Scope → TreeExs → Option (List Left)
   lefts s expressions.none = Some []
   lefts s (some e es) = option_and_then (λ l. option_map (λ ls. l ∷ ls) (lefts s es)) (left s e)
 
-  abbrev pub all_wanted : Scope → TreeExs → List (Option ValueType)
+  abbrev pub all_wanted : Scope → TreeExs → List Wanted
   all_wanted s expressions.none = []
   all_wanted s (some e es) = wanted s e ∷ all_wanted s es
 
@@ -191,15 +193,15 @@ module _ (text : List ℕ) where
   abbrev pub new_left : Scope → ℕ → Name → Option Left
   new_left s site n = new_left_of (is_blank (spelled text n)) (is_here s (spelled text n)) (place_in s (expressions.name n)) site
 
-  abbrev pub new_wanted : Scope → Name → Option ValueType
+  abbrev pub new_wanted : Scope → Name → Wanted
   new_wanted s n = new_wanted_of (is_blank (spelled text n)) (is_here s (spelled text n)) (place_in s (expressions.name n))
 
-  -- its left sides, the new ones of which have sites from one on, and the types that they ask for
+  -- its left sides, the new ones of which have sites from one on, and what they ask for
   abbrev pub new_lefts : Scope → ℕ → List Name → Option (List Left)
   new_lefts s site [] = Some []
   new_lefts s site (n ∷ ns) = option_and_then (λ l. option_map (λ ls. l ∷ ls) (new_lefts s (if declares s (spelled text n) then 1 + site else site) ns)) (new_left s site n)
 
-  abbrev pub all_new_wanted : Scope → List Name → List (Option ValueType)
+  abbrev pub all_new_wanted : Scope → List Name → List Wanted
   all_new_wanted s ns = map (new_wanted s) ns
 
   -- the scope after new variables, with types or without
@@ -260,20 +262,13 @@ module _ (text : List ℕ) where
 
   -- ---- a `var` among statements: the values are worked out before the names are declared
 
-  abbrev pub spec_type : Scope → Option TreeEx → Option ValueType
-  spec_type s None = None
-  spec_type s (Some e) = type_in text s e
-
-  abbrev pub spec_wanted : Scope → ValueSpec → List (Option ValueType)
-  spec_wanted s v = map (λ n. spec_type s v.type_expr) v.names
-
   -- a type that stands there holds for all names
   abbrev pub spec_slots_of : Scope → Option TreeEx → Option (List ValueType) → List Name → List Slot
   spec_slots_of s None ts ns = slots_each ts ns
   spec_slots_of s (Some e) ts ns = map (slot_with (type_in text s e)) ns
 
   abbrev pub spec_slots : Scope → ValueSpec → List Slot
-  spec_slots s v = spec_slots_of s v.type_expr (taken_types (spec_wanted s v) (seen text s v.values)) v.names
+  spec_slots s v = spec_slots_of s v.type_expr (taken_types (spec_wanted text s v) (seen text s v.values)) v.names
 
   abbrev pub behind_spec : Scope → ValueSpec → Scope
   behind_spec s v = behind_entries text s (spec_slots s v)
@@ -289,7 +284,7 @@ module _ (text : List ℕ) where
   spec_declared s v = option_map (λ es. declare (sites_of es)) (spec_entries s v)
 
   abbrev pub spec_assigned : Scope → ValueSpec → Option St
-  spec_assigned s v = assignment (option_map (map entry_left) (spec_entries s v)) (taken (spec_wanted s v) (seen text s v.values))
+  spec_assigned s v = assignment (option_map (map entry_left) (spec_entries s v)) (taken (spec_wanted text s v) (seen text s v.values))
 
   abbrev pub spec_statement : Scope → ValueSpec → Option St
   spec_statement s v = allowed (is_known s v.type_expr) (if is_bare v.type_expr v.values then spec_declared s v else spec_assigned s v)

@@ -15,8 +15,8 @@ ghost use Rattle.signatures.specs.Failing.{fault_where};
 ghost use Rattle.simple_statements.specs.SimpleFaults.{new_name_fault, NewNamesFail, TwiceFails, names_place};
 
 use crate::sides::{left_fault_of, target, wanted_of, with_left};
-use base::{NoMemory, Pos, SiteId, ValueType};
-use expression_types::check_single;
+use base::{NoMemory, Pos, SiteId};
+use expression_types::{Wanted, check_single};
 use names::{Blocks, Declared, Scope, is_blank, spelled};
 use operators::{TypedPlace, place_in};
 use signatures::{Slot, fault_where};
@@ -64,10 +64,15 @@ fn new_left_of(blank: bool, here: bool, place: Option<TypedPlace>, site: SiteId)
     }
 }
 
-fn new_wanted_of(blank: bool, here: bool, place: &Option<TypedPlace>) -> Option<ValueType>
+/// What a name of a `:=` asks for: a new variable takes the type of its value.
+fn new_wanted_of(blank: bool, here: bool, place: &Option<TypedPlace>) -> Wanted
     ensures { result ≡ new_wanted_of blank here (option_map typed_place_of place.now) }
 {
-    if here { wanted_of(blank, place) } else { None }
+    if here {
+        wanted_of(blank, place)
+    } else {
+        Wanted::Own
+    }
 }
 
 fn new_name_fault_of(blank: bool, here: bool, declared: Option<Declared>, pos: Pos) -> Option<Fault>
@@ -98,34 +103,29 @@ fn new_left(
     Ok(new_left_of(is_blank(bytes), scope.is_here(bytes), place, site))
 }
 
-fn new_wanted(
-    alloc: Global,
-    text: &[u8],
-    scope: &Scope,
-    name: Name,
-) -> Result<Option<ValueType>, NoMemory>
-    ensures { IfOk result (λ t. t ≡ new_wanted text.now (scope_of scope.now) name) }
+fn new_wanted(alloc: Global, text: &[u8], scope: &Scope, name: Name) -> Result<Wanted, NoMemory>
+    ensures { IfOk result (λ w. w ≡ new_wanted text.now (scope_of scope.now) name) }
 {
     let bytes = spelled(text, name);
     let place = name_place(alloc, text, scope, name)?;
     Ok(new_wanted_of(is_blank(bytes), scope.is_here(bytes), &place))
 }
 
-/// The types that the left sides of a `:=` ask for.
+/// What the left sides of a `:=` ask for.
 pub fn all_new_wanted(
     alloc: Global,
     text: &[u8],
     scope: &Scope,
     names: &[Name],
-) -> Result<Vec<Option<ValueType>>, NoMemory>
+) -> Result<Vec<Wanted>, NoMemory>
     ensures { IfOk result (λ v. v.items ≡ all_new_wanted text.now (scope_of scope.now) names.now) }
 {
-    let mut types = Vec::new(alloc);
+    let mut all = Vec::new(alloc);
     for name in names {
-        let value_type = new_wanted(alloc, text, scope, *name)?;
-        types.push(value_type)?;
+        let wanted = new_wanted(alloc, text, scope, *name)?;
+        all.push(wanted)?;
     }
-    Ok(types)
+    Ok(all)
 }
 
 /// Whether a `:=` declares a name.

@@ -18,7 +18,7 @@ ghost use Rattle.simple_statements.specs.SimpleStatements.{target, place_type, p
 ghost use Rattle.simple_statements.specs.SimpleFaults.{left_fault, own_fault, place_fault, LeftSideFails, LeftsFail, OwnSideFails, lefts_place};
 
 use base::{NoMemory, Pos, ValueType};
-use expression_types::{Single, check_single};
+use expression_types::{Single, Wanted, check_single, wanted_by};
 use names::{Declared, Scope, is_blank, name_in, spelled};
 use operators::{Operand, TypedPlace, is_place, place_in};
 use signatures::fault_where;
@@ -35,11 +35,11 @@ struct Side {
     fault: Option<Fault>,
 }
 
-/// The left sides of a `=`, where each is known, the type that each asks for, and the fault.
+/// The left sides of a `=`, where each is known, what each asks for, and the fault.
 #[derive(Drop)]
 pub struct Lefts {
     pub lefts: Option<Vec<Left>>,
-    pub wanted: Vec<Option<ValueType>>,
+    pub wanted: Vec<Wanted>,
     pub fault: Option<Fault>,
 }
 
@@ -60,7 +60,7 @@ pub fn target(place: Option<TypedPlace>) -> Option<Left>
     }
 }
 
-/// The type that a place asks for.
+/// The type of a place.
 fn place_type(place: &Option<TypedPlace>) -> Option<ValueType>
     ensures { result ≡ place_type (option_map typed_place_of place.now) }
 {
@@ -90,10 +90,15 @@ fn left_of(blank: bool, place: Option<TypedPlace>) -> Option<Left>
     }
 }
 
-pub fn wanted_of(blank: bool, place: &Option<TypedPlace>) -> Option<ValueType>
+/// What a left side of `=` asks for: nothing is known of that where it is no place.
+pub fn wanted_of(blank: bool, place: &Option<TypedPlace>) -> Wanted
     ensures { result ≡ wanted_of blank (option_map typed_place_of place.now) }
 {
-    if blank { None } else { place_type(place) }
+    if blank {
+        Wanted::Own
+    } else {
+        wanted_by(place_type(place))
+    }
 }
 
 /// The value of a left side; the blank name has none.

@@ -25,8 +25,8 @@ use crate::sides::{check_lefts, lefts_pos};
 use crate::updating::{check_step, check_update};
 use base::{NoMemory, Pos, ValueType};
 use expression_types::{
-    Gives, Item, check_expr, check_list, count, count_fault, placed_fault, take_fault, taken,
-    value_types,
+    Gives, Item, Wanted, check_expr, check_list, count, count_fault, placed_fault, take_fault,
+    taken, value_types,
 };
 use names::Scope;
 use operators::Operand;
@@ -36,10 +36,10 @@ use syntax::{Expr, Name, Simple};
 use type_faults::{Fault, FaultKind, lesser};
 use typed::{BinOp, Left, Values};
 
-/// What a function gives back: the types of its values, where they are known, and whether a `return` may have none.
+/// What a function gives back: what the places of its values ask for, and whether a `return` may have none.
 #[derive(Drop)]
 pub struct Returns {
-    pub wanted: Vec<Option<ValueType>>,
+    pub wanted: Vec<Wanted>,
     pub may_be_bare: bool,
 }
 
@@ -150,7 +150,7 @@ fn count_where(lefts: &Option<Vec<Left>>, items: &[Item]) -> Option<usize>
     }
 }
 
-fn place_count(places: &Vec<Option<ValueType>>) -> usize
+fn place_count(places: &Vec<Wanted>) -> usize
     ensures { result ≡ length places.now.items }
 {
     places.len()

@@ -9,21 +9,19 @@ ghost use Rattle.typed.specs.View.{exs_of_values, st_of, sts_of, site_in, left_o
 ghost use Rattle.type_faults.specs.Least.{IsLeast};
 ghost use Rattle.type_faults.specs.Given.{allowed};
 ghost use Rattle.names.specs.Scope.{scope_of};
-ghost use Rattle.expression_types.specs.Typing.{seen, taken};
+ghost use Rattle.expression_types.specs.Typing.{seen, taken, spec_wanted};
 ghost use Rattle.type_faults.specs.Given.{with_last};
 ghost use Rattle.signatures.specs.Entries.{sites_of, entry_left};
-ghost use Rattle.simple_statements.specs.SimpleStatements.{assignment, taken_types, is_bare, spec_type, spec_wanted, spec_slots_of, spec_slots, is_known, spec_declared, spec_assigned, spec_statement, spec_statements, behind_spec, behind_specs};
+ghost use Rattle.simple_statements.specs.SimpleStatements.{assignment, taken_types, is_bare, spec_slots_of, spec_slots, is_known, spec_declared, spec_assigned, spec_statement, spec_statements, behind_spec, behind_specs};
 ghost use Rattle.signatures.specs.declared.entries.Role.TheVariants.{Parameter};
 ghost use Rattle.signatures.specs.EntryFaults.{EntriesFail};
 ghost use Rattle.simple_statements.specs.SimpleFaults.{SpecTypeFails, SpecTakeFails, SpecValuesFail, FailsInSpec, FailsInSpecs};
 
 use crate::statements::{Line, Lines, assignment, types_where};
 use base::{NoMemory, Pos, SiteId, ValueType};
-use expression_types::{check_list, take_fault, taken, value_types};
+use expression_types::{check_list, spec_wanted, take_fault, taken, value_types};
 use names::{Scope, type_fault, type_in};
-use signatures::{
-    Role, Slot, check_entries, entry_lefts, sites_of, slot_types, slots_each, slots_with,
-};
+use signatures::{Role, Slot, check_entries, entry_lefts, sites_of, slots_each, slots_with};
 use std::alloc::Global;
 use syntax::{Expr, ValueSpec};
 use type_faults::{Fault, FaultKind, lesser};
@@ -37,16 +35,6 @@ struct Given {
     fault: Option<Fault>,
 }
 
-/// The type that stands in a declaration.
-fn spec_type(text: &[u8], scope: &Scope, type_expr: &Option<Expr>) -> Option<ValueType>
-    ensures { result ≡ spec_type text.now (scope_of scope.now) (ex_in type_expr.now) }
-{
-    match type_expr {
-        Some(e) => type_in(text, scope, e),
-        None => None,
-    }
-}
-
 fn spec_type_fault(text: &[u8], scope: &Scope, type_expr: &Option<Expr>) -> Option<Fault>
     ensures { IsLeast (SpecTypeFails text.now (scope_of scope.now) (ex_in type_expr.now)) result }
 {
@@ -54,20 +42,6 @@ fn spec_type_fault(text: &[u8], scope: &Scope, type_expr: &Option<Expr>) -> Opti
         Some(e) => type_fault(text, scope, e),
         None => None,
     }
-}
-
-/// The types that the names of a declaration ask for.
-fn spec_wanted(
-    alloc: Global,
-    text: &[u8],
-    scope: &Scope,
-    spec: &ValueSpec,
-) -> Result<Vec<Option<ValueType>>, NoMemory>
-    ensures { IfOk result (λ v. v.items ≡ spec_wanted text.now (scope_of scope.now) (value_spec_of spec.now)) }
-{
-    let value_type = spec_type(text, scope, &spec.type_expr);
-    let slots = slots_with(alloc, &spec.names, value_type)?;
-    slot_types(alloc, &slots)
 }
 
 /// The values of a declaration.

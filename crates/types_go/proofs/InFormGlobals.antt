@@ -10,9 +10,9 @@ use Rattle.syntax.specs.Declarations as tree
 use Rattle.syntax.specs.declared.expression.Name.{Name}
 use Rattle.typed.specs.declared.program.Site.{Site}
 use Rattle.typed_syntax.specs.Syntax.{Func, Program, site_type}
-use Rattle.typed_syntax.specs.Form.{IsPlain, IsWord, GlobalFits}
+use Rattle.typed_syntax.specs.Form.{GlobalFits}
 use Rattle.typed_syntax.specs.Types.{TypeTree, ints, bools}
-use Rattle.typed_syntax.specs.Value.{Value, int, IsOf}
+use Rattle.typed_syntax.specs.Value.{Value, int, IsOf, FitsWords}
 use Rattle.constants.specs.declared.constant.Constant.{Constant}
 use Rattle.constants.specs.declared.constant.Constant.TheVariants.{Number, Truth}
 use Rattle.constants.specs.declared.constant.Fixed.{Fixed}
@@ -43,14 +43,14 @@ use Rattle.types_go.proofs.Package.{names_numbers, all_names, items_names, globa
 
 -- ---- values of their types
 
-is_word : (z : ℤ) → is_int z ≡ true → IsWord (int z)
+is_word : (z : ℤ) → is_int z ≡ true → FitsWords (int z)
 is_word z h = grind (arith, int_lemmas)
 
-word_by : (z : ℤ) (b : Bool) → is_int z ≡ b → IsWord (int (cond b z (pos 0)))
+word_by : (z : ℤ) (b : Bool) → is_int z ≡ b → FitsWords (int (cond b z (pos 0)))
 word_by z true is = is_word z is
 word_by z false is = is_word (pos 0) refl
 
-int_word : (c : Constant) → IsWord (int (int_in c))
+int_word : (c : Constant) → FitsWords (int (int_in c))
 int_word (Number z) = word_by z (is_int z) refl
 int_word (Truth b) = is_word (pos 0) refl
 
@@ -78,21 +78,17 @@ known_basic s held rules k (Some (known_as.Constant f)) is = held_basic f.value_
 known_basic s held rules k (Some (known_as.Variable t)) is = rules_basic t (rules k (known_as.Variable t) is)
 
 module _ (T : Table) (formed : IsFormed T) where
-  first_fits : (t : ValueType) (c : Option Fixed) → IsBasic t → IsOf (type_tree T t) (first_value t c) × IsWord (first_value t c)
-  first_fits t c (inl is) = subst (λ (u : ValueType). IsOf (type_tree T u) (first_value u c) × IsWord (first_value u c)) (sym is) (subst (λ x. IsOf x (first_value Int c) × IsWord (first_value Int c)) (sym (int_tree T formed)) (by c))
+  first_fits : (t : ValueType) (c : Option Fixed) → IsBasic t → IsOf (type_tree T t) (first_value t c) × FitsWords (first_value t c)
+  first_fits t c (inl is) = subst (λ (u : ValueType). IsOf (type_tree T u) (first_value u c) × FitsWords (first_value u c)) (sym is) (subst (λ x. IsOf x (first_value Int c) × FitsWords (first_value Int c)) (sym (int_tree T formed)) (by c))
     where
-      by : (o : Option Fixed) → IsOf ints (first_value Int o) × IsWord (first_value Int o)
+      by : (o : Option Fixed) → IsOf ints (first_value Int o) × FitsWords (first_value Int o)
       by None = (tt, is_word (pos 0) refl)
       by (Some f) = (tt, int_word f.value)
-  first_fits t c (inr is) = subst (λ (u : ValueType). IsOf (type_tree T u) (first_value u c) × IsWord (first_value u c)) (sym is) (subst (λ x. IsOf x (first_value Boolean c) × IsWord (first_value Boolean c)) (sym (bool_tree T formed)) (by c))
+  first_fits t c (inr is) = subst (λ (u : ValueType). IsOf (type_tree T u) (first_value u c) × FitsWords (first_value u c)) (sym is) (subst (λ x. IsOf x (first_value Boolean c) × FitsWords (first_value Boolean c)) (sym (bool_tree T formed)) (by c))
     where
-      by : (o : Option Fixed) → IsOf bools (first_value Boolean o) × IsWord (first_value Boolean o)
+      by : (o : Option Fixed) → IsOf bools (first_value Boolean o) × FitsWords (first_value Boolean o)
       by None = (tt, tt)
       by (Some f) = (tt, tt)
-
-  plain_tree : (t : ValueType) → IsBasic t → IsPlain (type_tree T t)
-  plain_tree t (inl is) = inl (ap (type_tree T) is ∙ int_tree T formed)
-  plain_tree t (inr is) = inr (ap (type_tree T) is ∙ bool_tree T formed)
 
 extends_length : (a b : List Site) → Extends a b → length a ≤ length b
 extends_length a b e = let whole = ap length e.1 ∙ length-append a e.0 in omega (arith, whole)
@@ -327,7 +323,6 @@ module _ (text : List ℕ) (heads : Scope) where
         let type_is = type_of_site entry.0 k sites begins.1.1.0 in
         let fits = first_fits T formed t begins.1.0 basic in
         record {
-          value = subst (λ (v : Value). IsOf (site_type p entry.0) v × IsWord v) (sym begins.1.1.1) (subst (λ (u : TypeTree). IsOf u (first_value t begins.1.0)) (sym type_is) fits.0, fits.1);
-          plain = subst IsPlain (sym type_is) (plain_tree T formed t basic);
+          value = subst (λ (v : Value). IsOf (site_type p entry.0) v × FitsWords v) (sym begins.1.1.1) (subst (λ (u : TypeTree). IsOf u (first_value t begins.1.0)) (sym type_is) fits.0, fits.1);
           apart = λ n f found. globals_apart s 0 ms fs is j entry at n f (ap (λ (l : List Func). slice_get l n) (sym funcs) ∙ found);
         }

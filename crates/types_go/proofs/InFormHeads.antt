@@ -22,7 +22,9 @@ use Rattle.operators.specs.Operands.{is_assignable, as_value}
 use Rattle.names.specs.Scope.{Scope, type_tree, type_trees, opened}
 use Rattle.names.specs.Types.{type_in}
 use Rattle.names.proofs.Trees.{int_tree}
-use Rattle.expression_types.specs.Typing.{operand_in, taken, value_types, gives, seen, condition, test}
+use Rattle.expression_types.specs.declared.wants.Wanted.{Wanted}
+use Rattle.expression_types.specs.declared.wants.Wanted.TheVariants as wants
+use Rattle.expression_types.specs.Typing.{operand_in, taken, value_types, wanted_by, declared_wanted, spec_wanted, gives, seen, condition, test}
 use Rattle.types_go.proofs.SettledHeads.{number_is}
 use Rattle.expression_types.proofs.InForm.{Agrees, AreAccepted, OptionalFits, AllFit, assigned_type, value_fits, operand_fits, maybe_fits, taken_fits, gives_fit, seen_fit, condition_fits, test_fits}
 use Rattle.signatures.specs.declared.slots.Slot.{Slot}
@@ -31,7 +33,7 @@ use Rattle.signatures.specs.Entries.{sites_of, entry_left, slot_with, slots_each
 use Rattle.signatures.proofs.Growth.{Extends, package_of, extends_twice, keeps_grows, grows_types, grows_entries}
 use Rattle.signatures.proofs.Visible.{Visible, shown_site, shown_number, visible_opened, visible_kept}
 use Rattle.signatures.proofs.InFormEntries.{HasSites, Within, within_before, SlotsHave, each_have, with_have, sites_long, left_sites, left_scope, named_scope_of, lefts_of_params, next_of_params, entries_fit}
-use Rattle.simple_statements.specs.SimpleStatements.{is_bare, lefts, all_wanted, simple_statement, spec_type, spec_wanted, spec_slots_of, spec_slots, behind_spec, spec_entries, is_known, spec_declared, spec_assigned, spec_statement, taken_types}
+use Rattle.simple_statements.specs.SimpleStatements.{is_bare, lefts, all_wanted, simple_statement, spec_slots_of, spec_slots, behind_spec, spec_entries, is_known, spec_declared, spec_assigned, spec_statement, taken_types}
 use Rattle.simple_statements.proofs.SettledValues.{allowed_is}
 use Rattle.simple_statements.proofs.SettledSimple.{assignment_some}
 use Rattle.simple_statements.proofs.Growth.{grows_simple}
@@ -82,12 +84,13 @@ declared_in_scope scope (Some (exit at e)) = tt
 
 -- ---- an int that a `range` goes over
 
-given_types : (t : ValueType) (ps : List (Option ValueType)) → all_accept (Some t) ps ≡ true → AreAccepted ps (map (λ (p : Option ValueType). t) ps)
+given_types : (t : ValueType) (ps : List Wanted) → all_accept (Some t) ps ≡ true → AreAccepted ps (map (λ (p : Wanted). t) ps)
 given_types t [] is = tt
-given_types t (None ∷ ps) is = given_types t ps is
-given_types t (Some s ∷ ps) is = by (λ is1. given_types t ps is1) (same_type s t) refl is
+given_types t (wants.Own ∷ ps) is = given_types t ps is
+given_types t (wants.Unknown ∷ ps) is = given_types t ps is
+given_types t (wants.Typed s ∷ ps) is = by (λ is1. given_types t ps is1) (same_type s t) refl is
   where
-    by : (all_accept (Some t) ps ≡ true → AreAccepted ps (map (λ (p : Option ValueType). t) ps)) → (b : Bool) → same_type s t ≡ b → (b && all_accept (Some t) ps) ≡ true → (s ≡ t) × AreAccepted ps (map (λ (p : Option ValueType). t) ps)
+    by : (all_accept (Some t) ps ≡ true → AreAccepted ps (map (λ (p : Wanted). t) ps)) → (b : Bool) → same_type s t ≡ b → (b && all_accept (Some t) ps) ≡ true → (s ≡ t) × AreAccepted ps (map (λ (p : Wanted). t) ps)
     by later true same1 is1 = (same_is s t same1, later is1)
     by later false same1 is1 = cc is1
 
@@ -98,7 +101,7 @@ alone_sites (new site) = refl
 alone_sites (to q) = refl
 
 -- names that ask for a type get it
-accepted_same : (t : ValueType) (ns : List Name) (ts : List ValueType) → AreAccepted (map (λ (n : Name). Some t) ns) ts → map (λ (n : Name). t) ns ≡ ts
+accepted_same : (t : ValueType) (ns : List Name) (ts : List ValueType) → AreAccepted (map (λ (n : Name). wants.Typed t) ns) ts → map (λ (n : Name). t) ns ≡ ts
 accepted_same t [] [] all = refl
 accepted_same t [] (u ∷ ts) all = absurd all
 accepted_same t (n ∷ ns) [] all = absurd all
@@ -297,7 +300,7 @@ module _ (T : Table) (text : List ℕ) (p : Program) (all : List Site) (has : Ha
     assigned_fits : (ls : TreeExs) (l : List Left) (key : Left) → Extends s.sites all → lefts text (opened s) ls ≡ Some l → all_accept (Some Int) (all_wanted text (opened s) ls) ≡ true → key_of l ≡ Some key → KeyFits (opened s) key
     assigned_fits ls l key ext found accept is =
         let ps = all_wanted text (opened s) ls in
-        let old = lefts_fit T p text (opened s) scope (known_all T text p all has (opened s) scope (visible_opened s scope visible) types_are (agreed (opened s) refl ext)) ls (map (λ (q : Option ValueType). Int) ps) l (given_types Int ps accept) found in
+        let old = lefts_fit T p text (opened s) scope (known_all T text p all has (opened s) scope (visible_opened s scope visible) types_are (agreed (opened s) refl ext)) ls (map (λ (q : Wanted). Int) ps) l (given_types Int ps accept) found in
         let sites_are : new_sites (key ∷ []) ≡ 0 = sym (key_sites l key is) ∙ old.sites in
         record {
           shows = subst (λ (w : List ℕ). Visible (opened s) w) (sym (old.behind scope) ∙ key_scope scope l key is) (visible_opened s scope visible);
@@ -411,15 +414,15 @@ module _ (T : Table) (text : List ℕ) (p : Program) (all : List Site) (has : Ha
             subst (λ (ps : List Slot). SlotsHave ps (map (λ (n : Name). u) v.names)) (sym (slots_are (Some e) o_is))
             (subst (λ (w : Option ValueType). SlotsHave (map (slot_with w) v.names) (map (λ (n : Name). u) v.names)) (sym u_is) (with_have u v.names))
 
-        wanted_are : (e : TreeEx) (u : ValueType) → v.type_expr ≡ Some e → type_in text s e ≡ Some u → spec_wanted text s v ≡ map (λ (n : Name). Some u) v.names
-        wanted_are e u o_is u_is = ap (λ (k : Option TreeEx). map (λ (n : Name). spec_type text s k) v.names) o_is ∙ ap (λ (w : Option ValueType). map (λ (n : Name). w) v.names) u_is
+        wanted_are : (e : TreeEx) (u : ValueType) → v.type_expr ≡ Some e → type_in text s e ≡ Some u → spec_wanted text s v ≡ map (λ (n : Name). wants.Typed u) v.names
+        wanted_are e u o_is u_is = ap (λ (k : Option TreeEx). map (λ (n : Name). declared_wanted text s k) v.names) o_is ∙ ap (λ (w : Option ValueType). map (λ (n : Name). wanted_by w) v.names) u_is
 
         by : (o : Option TreeEx) → v.type_expr ≡ o → is_known text s o ≡ true → cond (is_bare o v.values) (spec_declared text s v) (spec_assigned text s v) ≡ Some t
             → Formed1 looped s scope (behind_spec text s v) t × Visible (behind_spec text s v) (scope_after scope t)
         by None o_is known is1 =
             spec_assigned_formed looped v t ext0 ext
             (λ ts found accepted. subst (λ (ps : List Slot). SlotsHave ps ts) (sym (slots_are None o_is))
-            (subst (λ (w : Option (List ValueType)). SlotsHave (slots_each w v.names) ts) (sym found) (each_have ts v.names (accepted_long (spec_wanted text s v) ts accepted ∙ length-map v.names (λ (n : Name). spec_type text s v.type_expr))))) is1
+            (subst (λ (w : Option (List ValueType)). SlotsHave (slots_each w v.names) ts) (sym found) (each_have ts v.names (accepted_long (spec_wanted text s v) ts accepted ∙ length-map v.names (λ (n : Name). declared_wanted text s v.type_expr))))) is1
         by (Some e) o_is known is1 = with_type (type_in text s e) refl known (is_bare (Some e) v.values) is1
           where
             with_type : (u : Option ValueType) → type_in text s e ≡ u → is_some u ≡ true → (b : Bool) → cond b (spec_declared text s v) (spec_assigned text s v) ≡ Some t
@@ -428,4 +431,4 @@ module _ (T : Table) (text : List ℕ) (p : Program) (all : List Site) (has : Ha
             with_type (Some u) u_is known1 true is2 = spec_declared_formed looped v (map (λ (n : Name). u) v.names) t (of_type e u o_is u_is) ext is2
             with_type (Some u) u_is known1 false is2 =
                 spec_assigned_formed looped v t ext0 ext
-                (λ ts found accepted. subst (λ (l : List ValueType). SlotsHave (spec_slots text s v) l) (accepted_same u v.names ts (subst (λ (w : List (Option ValueType)). AreAccepted w ts) (wanted_are e u o_is u_is) accepted)) (of_type e u o_is u_is)) is2
+                (λ ts found accepted. subst (λ (l : List ValueType). SlotsHave (spec_slots text s v) l) (accepted_same u v.names ts (subst (λ (w : List Wanted). AreAccepted w ts) (wanted_are e u o_is u_is) accepted)) (of_type e u o_is u_is)) is2

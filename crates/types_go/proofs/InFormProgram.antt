@@ -21,7 +21,8 @@ use Rattle.type_faults.proofs.Options.{and_then_some, map_some, none_some, same_
 use Rattle.names.specs.Universe.{is_blank, is_main}
 use Rattle.names.specs.Scope.{Scope, Signature, type_tree, type_trees, basic_table, declaration, is_here, opened, beginning}
 use Rattle.names.proofs.Trees.{solid, formed_beginning}
-use Rattle.expression_types.specs.Typing.{asked}
+use Rattle.expression_types.specs.declared.wants.Wanted.TheVariants as wants
+use Rattle.expression_types.specs.Typing.{wanted_by, asked}
 use Rattle.package_values.specs.Values.{items_in, settled}
 use Rattle.signatures.specs.declared.slots.Slot.{Slot}
 use Rattle.signatures.specs.declared.entries.Role.{Role}
@@ -78,9 +79,9 @@ trees_are T (p ∷ ps) (t ∷ ts) have = ap (λ (o : Option ValueType). tree_nam
 trees_are T [] (t ∷ ts) have = absurd have
 trees_are T (p ∷ ps) [] have = absurd have
 
-wanted_are : (ps : List Slot) (ts : List ValueType) → SlotsHave ps ts → map (λ (p : Slot). p.value_type) ps ≡ asked ts
+wanted_are : (ps : List Slot) (ts : List ValueType) → SlotsHave ps ts → map (λ (p : Slot). wanted_by p.value_type) ps ≡ asked ts
 wanted_are [] [] have = refl
-wanted_are (p ∷ ps) (t ∷ ts) have = ap (λ (o : Option ValueType). o ∷ map (λ (q : Slot). q.value_type) ps) have.0 ∙ ap (λ l. Some t ∷ l) (wanted_are ps ts have.1)
+wanted_are (p ∷ ps) (t ∷ ts) have = ap (λ (o : Option ValueType). wanted_by o ∷ map (λ (q : Slot). wanted_by q.value_type) ps) have.0 ∙ ap (λ l. wants.Typed t ∷ l) (wanted_are ps ts have.1)
 wanted_are [] (t ∷ ts) have = absurd have
 wanted_are (p ∷ ps) [] have = absurd have
 

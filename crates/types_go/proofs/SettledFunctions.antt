@@ -52,6 +52,8 @@ use Rattle.function_heads.specs.HeadFaults.{FailsInHead, FailsInTypes, external_
 use Rattle.types_go.specs.FunctionFaults.{FailsInParts, FailsWith, FailsInFunction, FailsInFunctions}
 use Rattle.types_go.proofs.Package.{both_second, constant_one, variable_one, declared_one, values_long, signatures_are, items_kept}
 use Rattle.types_go.proofs.Types.{items_types}
+use Rattle.expression_types.specs.Typing.{wanted_by}
+use Rattle.expression_types.proofs.Places.{Asks, AllAsk}
 use Rattle.types_go.proofs.SettledStatements.{settled_all, statements_decided}
 
 -- ---- the head and the types of a function
@@ -159,6 +161,14 @@ module _ (text : List ℕ) (heads : Scope) where
           let q = map_some (λ rs. record { params = r.0; results = rs }) (types_of (slots_of text heads g.results)) sig r.2 in
           (r.0, q.0, r.1, q.1)
 
+  typed_ask : (ps : List Slot) → AllTyped ps → AllAsk (map (λ (p : Slot). wanted_by p.value_type) ps)
+  typed_ask [] all = tt
+  typed_ask (p ∷ ps) all = (subst (λ (o : Option ValueType). Asks (wanted_by o)) (sym all.1) tt, typed_ask ps all.2)
+
+  -- a function with a signature gives back values of types that are known
+  returns_ask : (g : TreeFunction) → HasSignature (signature_in text heads g) → AllAsk (returns_of text heads g).wanted
+  returns_ask g has = let t = signature_parts g has in typed_ask (slots_of text heads g.results) (all_typed (slots_of text heads g.results) t.1 t.3)
+
   pub settled_body : (s : Scope) (g : TreeFunction) → HasSignature (signature_in text heads g) → IsSettled s → IsSettled (body_scope text heads s g)
   settled_body s g has settled =
       let t = signature_parts g has in
@@ -182,7 +192,7 @@ module _ (text : List ℕ) (heads : Scope) where
       (λ small. parts_decided (param_entries text heads s g) (result_entries text heads s g) (body_of text heads s g b) (func text heads s g b)
       (EntriesFail text Parameter (opened s) (slots_of text heads g.params)) (EntriesFail text Result (behind_params text heads s g) (slots_of text heads g.results)) (FailsInStatements text (returns_of text heads g) false (body_scope text heads s g) b.statements)
       (entries_decided text Parameter (opened s) (slots_of text heads g.params)) (entries_decided text Result (behind_params text heads s g) (slots_of text heads g.results))
-      (statements_decided text (returns_of text heads g) false (body_scope text heads s g) b.statements (settled_body s g (small_signed heads.types (signature_in text heads g) small) settled)))
+      (statements_decided text (returns_of text heads g) (returns_ask g (small_signed heads.types (signature_in text heads g) small)) false (body_scope text heads s g) b.statements (settled_body s g (small_signed heads.types (signature_in text heads g) small) settled)))
 
   -- what a typed function is made of
   abbrev pub Made : Scope → ℕ → TreeFunction → Func → Body → Type 0

@@ -23,6 +23,7 @@ use Rattle.operators.specs.Operands.{Operand, is_assignable, as_value}
 use Rattle.names.specs.Universe.{is_blank}
 use Rattle.names.specs.Scope.{Scope, is_here, opened}
 use Rattle.names.proofs.Settled.{IsSettled}
+use Rattle.expression_types.specs.declared.wants.Wanted.{Wanted}
 use Rattle.expression_types.specs.Typing.{accepts, operand_in, gives, condition, test}
 use Rattle.expression_types.specs.Faults.{range_fault, Fails, FailsAsOperand, FailsInCondition, FailsInTest}
 use Rattle.expression_types.proofs.DecidedValues.{operand_decided, as_value_decided}
@@ -85,7 +86,7 @@ int_decided at place (Some x) P d = further P (IsFault (over_fault at place (Som
     by true = as_value_decided place x
     by false = (fault Unfit at, refl)
 
-given_tested : (t : ValueType) (p : Option ValueType) (at : Pos) → Tested (accepts p t) (IsFault (given_fault (Some t) p at))
+given_tested : (t : ValueType) (p : Wanted) (at : Pos) → Tested (accepts p t) (IsFault (given_fault (Some t) p at))
 given_tested t p at = where_not (accepts p t) (fault Mismatch at)
 
 -- what a header goes over gives numbers that are ints

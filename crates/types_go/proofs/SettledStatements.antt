@@ -16,6 +16,7 @@ use Rattle.names.proofs.Settled.{IsSettled}
 use Rattle.expression_types.specs.Typing.{seen}
 use Rattle.expression_types.specs.Faults.{FailsInEach}
 use Rattle.expression_types.proofs.Settled.{seen_decided}
+use Rattle.expression_types.proofs.Places.{AllAsk}
 use Rattle.signatures.specs.Failing.{fault_where}
 use Rattle.signatures.proofs.SettledEntries.{settled_opened, settled_closed}
 use Rattle.simple_statements.specs.SimpleStatements.{Returns, before, returned, simple_statement}
@@ -97,43 +98,45 @@ module _ (text : List ℕ) (r : Returns) where
   settled_inner : (looped : Bool) (s : Scope) (ms : Stms) (b : Sts) → IsSettled s → statements text r looped (opened s) ms ≡ Some b → IsSettled (closed (behind_all text (opened s) ms))
   settled_inner looped s ms b settled is = settled_closed (behind_all text (opened s) ms) (settled_all looped (opened s) ms b (settled_opened s settled) is)
 
-  mutual
-    pub statement_decided : (looped : Bool) (s : Scope) (m : Stm) → IsSettled s → Decided (statement text r looped s m) (FailsInStatement text r looped s m)
-    statement_decided looped s (tree.var_stmt at specs) settled = specs_decided text s at specs settled
-    statement_decided looped s (tree.simple m) settled = mapped alone (simple_statement text s m) (FailsInSimple text s m) (simple_decided text s m settled)
-    statement_decided looped s (tree.block ms) settled =
-        mapped (λ x. alone (block x)) (statements text r looped (opened s) ms) (FailsInStatements text r looped (opened s) ms) (statements_decided looped (opened s) ms (settled_opened s settled))
-    statement_decided looped s (tree.if_stmt at g body rest) settled =
-        let h = header text s g.init in
-        let inner = closed (behind_all text (opened h) body) in
-        mapped alone (choice_of (guard_head text s g) (statements text r looped (opened h) body) (alternative text r looped inner rest)) _
-        (choice_decided (guard_head text s g) (statements text r looped (opened h) body) (alternative text r looped inner rest) (FailsInGuard text s at g) (FailsInStatements text r looped (opened h) body) (FailsInElse text r looped inner rest)
-        (guard_decided text s at g settled) (λ c is. statements_decided looped (opened h) body (settled_opened h (settled_guard text s g c settled is)))
-        (λ c y is y_is. else_decided looped inner rest (settled_inner looped h body y (settled_guard text s g c settled is) y_is)))
-    statement_decided looped s (tree.for_stmt at c body) settled =
-        let h = clause_scope text s c in
-        mapped alone (loop_of (clause_head text s c) (statements text r true (opened h) body)) _
-        (after (clause_head text s c) (λ k. option_map (for_of k) (statements text r true (opened h) body)) (FailsInClause text s at c) (FailsInStatements text r true (opened h) body) (clause_decided text s at c settled)
-        (λ k is. mapped (for_of k) (statements text r true (opened h) body) (FailsInStatements text r true (opened h) body) (statements_decided true (opened h) body (settled_opened h (settled_clause text s c k settled is)))))
-    statement_decided looped s (tree.break_stmt at) settled = jump_decided looped (alone break_stmt) (fault BreakOutside at)
-    statement_decided looped s (tree.continue_stmt at) settled = jump_decided looped (alone continue_stmt) (fault BreakOutside at)
-    statement_decided looped s (tree.return_stmt at es) settled =
-        mapped alone (returned r (seen text s es)) (λ f. FailsInEach text s es f ⊎ ReturnFails at r (seen text s es) f) (return_decided at r (seen text s es) (FailsInEach text s es) (seen_decided text s settled es))
+  -- where the types of the results are known
+  module _ (asks : AllAsk r.wanted) where
+    mutual
+      pub statement_decided : (looped : Bool) (s : Scope) (m : Stm) → IsSettled s → Decided (statement text r looped s m) (FailsInStatement text r looped s m)
+      statement_decided looped s (tree.var_stmt at specs) settled = specs_decided text s at specs settled
+      statement_decided looped s (tree.simple m) settled = mapped alone (simple_statement text s m) (FailsInSimple text s m) (simple_decided text s m settled)
+      statement_decided looped s (tree.block ms) settled =
+          mapped (λ x. alone (block x)) (statements text r looped (opened s) ms) (FailsInStatements text r looped (opened s) ms) (statements_decided looped (opened s) ms (settled_opened s settled))
+      statement_decided looped s (tree.if_stmt at g body rest) settled =
+          let h = header text s g.init in
+          let inner = closed (behind_all text (opened h) body) in
+          mapped alone (choice_of (guard_head text s g) (statements text r looped (opened h) body) (alternative text r looped inner rest)) _
+          (choice_decided (guard_head text s g) (statements text r looped (opened h) body) (alternative text r looped inner rest) (FailsInGuard text s at g) (FailsInStatements text r looped (opened h) body) (FailsInElse text r looped inner rest)
+          (guard_decided text s at g settled) (λ c is. statements_decided looped (opened h) body (settled_opened h (settled_guard text s g c settled is)))
+          (λ c y is y_is. else_decided looped inner rest (settled_inner looped h body y (settled_guard text s g c settled is) y_is)))
+      statement_decided looped s (tree.for_stmt at c body) settled =
+          let h = clause_scope text s c in
+          mapped alone (loop_of (clause_head text s c) (statements text r true (opened h) body)) _
+          (after (clause_head text s c) (λ k. option_map (for_of k) (statements text r true (opened h) body)) (FailsInClause text s at c) (FailsInStatements text r true (opened h) body) (clause_decided text s at c settled)
+          (λ k is. mapped (for_of k) (statements text r true (opened h) body) (FailsInStatements text r true (opened h) body) (statements_decided true (opened h) body (settled_opened h (settled_clause text s c k settled is)))))
+      statement_decided looped s (tree.break_stmt at) settled = jump_decided looped (alone break_stmt) (fault BreakOutside at)
+      statement_decided looped s (tree.continue_stmt at) settled = jump_decided looped (alone continue_stmt) (fault BreakOutside at)
+      statement_decided looped s (tree.return_stmt at es) settled =
+          mapped alone (returned r (seen text s es)) (λ f. FailsInEach text s es f ⊎ ReturnFails at r (seen text s es) f) (return_decided at r (seen text s es) (FailsInEach text s es) asks (seen_decided text s settled es))
 
-    else_decided : (looped : Bool) (s : Scope) (e : Els) → IsSettled s → Decided (alternative text r looped s e) (FailsInElse text r looped s e)
-    else_decided looped s tree.no_else settled = λ f h. h
-    else_decided looped s (tree.else_block ms) settled = statements_decided looped (opened s) ms (settled_opened s settled)
-    else_decided looped s (tree.else_if at g body rest) settled =
-        let h = header text s g.init in
-        let inner = closed (behind_all text (opened h) body) in
-        mapped alone (choice_of (guard_head text s g) (statements text r looped (opened h) body) (alternative text r looped inner rest)) _
-        (choice_decided (guard_head text s g) (statements text r looped (opened h) body) (alternative text r looped inner rest) (FailsInGuard text s at g) (FailsInStatements text r looped (opened h) body) (FailsInElse text r looped inner rest)
-        (guard_decided text s at g settled) (λ c is. statements_decided looped (opened h) body (settled_opened h (settled_guard text s g c settled is)))
-        (λ c y is y_is. else_decided looped inner rest (settled_inner looped h body y (settled_guard text s g c settled is) y_is)))
+      else_decided : (looped : Bool) (s : Scope) (e : Els) → IsSettled s → Decided (alternative text r looped s e) (FailsInElse text r looped s e)
+      else_decided looped s tree.no_else settled = λ f h. h
+      else_decided looped s (tree.else_block ms) settled = statements_decided looped (opened s) ms (settled_opened s settled)
+      else_decided looped s (tree.else_if at g body rest) settled =
+          let h = header text s g.init in
+          let inner = closed (behind_all text (opened h) body) in
+          mapped alone (choice_of (guard_head text s g) (statements text r looped (opened h) body) (alternative text r looped inner rest)) _
+          (choice_decided (guard_head text s g) (statements text r looped (opened h) body) (alternative text r looped inner rest) (FailsInGuard text s at g) (FailsInStatements text r looped (opened h) body) (FailsInElse text r looped inner rest)
+          (guard_decided text s at g settled) (λ c is. statements_decided looped (opened h) body (settled_opened h (settled_guard text s g c settled is)))
+          (λ c y is y_is. else_decided looped inner rest (settled_inner looped h body y (settled_guard text s g c settled is) y_is)))
 
-    pub statements_decided : (looped : Bool) (s : Scope) (ms : Stms) → IsSettled s → Decided (statements text r looped s ms) (FailsInStatements text r looped s ms)
-    statements_decided looped s tree.nil settled = λ f h. h
-    statements_decided looped s (tree.cons m ms) settled =
-        after (statement text r looped s m) (λ t. option_map (before t) (statements text r looped (behind text s m) ms)) (FailsInStatement text r looped s m) (FailsInStatements text r looped (behind text s m) ms)
-        (statement_decided looped s m settled)
-        (λ t is. mapped (before t) (statements text r looped (behind text s m) ms) (FailsInStatements text r looped (behind text s m) ms) (statements_decided looped (behind text s m) ms (settled_behind looped s m t settled is)))
+      pub statements_decided : (looped : Bool) (s : Scope) (ms : Stms) → IsSettled s → Decided (statements text r looped s ms) (FailsInStatements text r looped s ms)
+      statements_decided looped s tree.nil settled = λ f h. h
+      statements_decided looped s (tree.cons m ms) settled =
+          after (statement text r looped s m) (λ t. option_map (before t) (statements text r looped (behind text s m) ms)) (FailsInStatement text r looped s m) (FailsInStatements text r looped (behind text s m) ms)
+          (statement_decided looped s m settled)
+          (λ t is. mapped (before t) (statements text r looped (behind text s m) ms) (FailsInStatements text r looped (behind text s m) ms) (statements_decided looped (behind text s m) ms (settled_behind looped s m t settled is)))

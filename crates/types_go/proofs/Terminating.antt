@@ -25,10 +25,10 @@ use Rattle.names.specs.declared.scope.Declared.{Declared}
 use Rattle.names.specs.declared.scope.Declared.TheVariants.{Variable, Untyped, Panic}
 use Rattle.names.specs.Scope.{Scope, declaration, opened, closed}
 use Rattle.names.specs.Naming.{name_in}
-use Rattle.expression_types.specs.Typing.{Part, Gives, one, called, asking, quoted, printed, panicked, exited, operand_in, Seen, parts, taken, panicked_with, called_with, spread_over, callee_declared, callee, gives, seen, condition, test}
+use Rattle.expression_types.specs.Typing.{Part, Gives, one, called, asking, quoted, printed, panicked, exited, operand_in, Seen, parts, taken, panicked_with, called_with, spread_over, callee_declared, callee, spec_wanted, gives, seen, condition, test}
 use Rattle.signatures.specs.Entries.{sites_of, entry_left}
 use Rattle.signatures.proofs.Growth.{keeps_grows}
-use Rattle.simple_statements.specs.SimpleStatements.{Returns, only, before, expressed, assignment, updated, stepped, returned, lefts, all_wanted, new_lefts, all_new_wanted, may_define, own_value, update_statement, simple_statement, is_bare, spec_entries, spec_wanted, is_known, spec_declared, spec_assigned, spec_statement, spec_statements, behind_spec}
+use Rattle.simple_statements.specs.SimpleStatements.{Returns, only, before, expressed, assignment, updated, stepped, returned, lefts, all_wanted, new_lefts, all_new_wanted, may_define, own_value, update_statement, simple_statement, is_bare, spec_entries, is_known, spec_declared, spec_assigned, spec_statement, spec_statements, behind_spec}
 use Rattle.simple_statements.proofs.SettledValues.{allowed_is}
 use Rattle.simple_statements.proofs.SettledSimple.{where_some, assignment_some}
 use Rattle.terminating.specs.Terminating.{is_endless, leaves, leaves_else, leaves_any, is_panic, names_panic, panics, ends_simple, is_terminating, is_terminating_else, ends_after}

@@ -17,7 +17,7 @@ use Rattle.type_faults.specs.Given.{allowed}
 use Rattle.names.specs.Universe.{is_blank, is_main}
 use Rattle.names.specs.declared.scope.Known.{Known}
 use Rattle.names.specs.Scope.{Scope, declaration, known, with_site, opened, closed, beginning}
-use Rattle.expression_types.specs.Typing.{known_type, gives}
+use Rattle.expression_types.specs.Typing.{known_type, wanted_by, gives}
 use Rattle.package_values.specs.declared.items.Role.TheVariants as role
 use Rattle.package_values.specs.Values.{Item, items_in_specs, items_in, constant_in, settled}
 use Rattle.signatures.specs.declared.entries.Role.TheVariants.{Parameter as parameter, Result as result}
@@ -82,7 +82,7 @@ module _ (text : List ℕ) where
 module _ (text : List ℕ) (heads : Scope) where
   -- with results that have no names, a `return` gives some values
   abbrev pub returns_of : TreeFunction → Returns
-  returns_of f = record { wanted = map (λ slot. slot.value_type) (slots_of text heads f.results); may_be_bare = (length (params_of f.results) == 0) || is_named f.results }
+  returns_of f = record { wanted = map (λ slot. wanted_by slot.value_type) (slots_of text heads f.results); may_be_bare = (length (params_of f.results) == 0) || is_named f.results }
 
   abbrev pub may_end : Scope → TreeFunction → Body → Bool
   may_end s f b = (length (params_of f.results) == 0) || ends_in_terminating text s b.statements

@@ -16,6 +16,7 @@ use Rattle.type_faults.specs.Faults.{fault, IsFault, FormFails}
 use Rattle.operators.specs.Operands.{Operand, is_assignable}
 use Rattle.names.specs.Universe.{is_blank}
 use Rattle.names.specs.Scope.{Scope, opened, closed}
+use Rattle.expression_types.specs.declared.wants.Wanted.{Wanted}
 use Rattle.expression_types.specs.Typing.{accepts, operand_in, gives, seen}
 use Rattle.expression_types.specs.Faults.{range_fault, FailsInEach, FailsAsOperand, FailsInCondition, FailsInTest}
 use Rattle.signatures.specs.declared.entries.Role.TheVariants.{Parameter}
@@ -32,12 +33,12 @@ over_fault pos value_pos None = None
 over_fault pos value_pos (Some x) = if is_assignable Int x then range_fault value_pos (Some x) else Some (fault Unfit pos)
 
 -- a left side of another type than that of the numbers
-abbrev pub given_fault : Option ValueType → Option ValueType → Pos → Option Fault
+abbrev pub given_fault : Option ValueType → Wanted → Pos → Option Fault
 given_fault None p pos = None
 given_fault (Some t) p pos = fault_where (not (accepts p t)) (fault Mismatch pos)
 
--- left sides that ask for these types, where each gets a value of a type
-abbrev pub GivenFail : Option ValueType → List (Option ValueType) → TreeExs → Fault → Type 0
+-- left sides that ask for this, where each gets a value of a type
+abbrev pub GivenFail : Option ValueType → List Wanted → TreeExs → Fault → Type 0
 GivenFail t (p ∷ ps) (some e es) f = IsFault (given_fault t p (first_pos e)) f ⊎ GivenFail t ps es f
 GivenFail t ps es f = ⊥
 

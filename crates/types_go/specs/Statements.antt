@@ -13,6 +13,7 @@ use Rattle.type_faults.specs.Given.{allowed}
 use Rattle.operators.specs.Operands.{Operand, is_assignable, as_value}
 use Rattle.names.specs.Universe.{is_blank}
 use Rattle.names.specs.Scope.{Scope, opened, closed}
+use Rattle.expression_types.specs.declared.wants.Wanted.{Wanted}
 use Rattle.expression_types.specs.Typing.{accepts, operand_in, gives, seen, condition, test}
 use Rattle.signatures.specs.declared.slots.Slot.{Slot}
 use Rattle.signatures.specs.declared.entries.Role.TheVariants.{Parameter}
@@ -88,8 +89,8 @@ abbrev pub number_type : Option Operand → Option ValueType
 number_type None = None
 number_type (Some x) = if is_assignable Int x then Some Int else None
 
--- whether left sides that ask for these types may get a value of one, where that is known
-abbrev pub all_accept : Option ValueType → List (Option ValueType) → Bool
+-- whether left sides that ask for this may get a value of a type, where that is known
+abbrev pub all_accept : Option ValueType → List Wanted → Bool
 all_accept None ps = true
 all_accept (Some t) [] = true
 all_accept (Some t) (p ∷ ps) = accepts p t && all_accept (Some t) ps

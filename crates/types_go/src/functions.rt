@@ -17,6 +17,7 @@ ghost use Rattle.function_heads.specs.Assembled.{IsAt};
 ghost use Rattle.types_go.specs.Passing.{AreAt, member_views};
 ghost use Rattle.package_values.specs.Passing.{item_of};
 ghost use Rattle.signatures.specs.Failing.{fault_where};
+ghost use Rattle.expression_types.specs.Typing.{wanted_by};
 ghost use Rattle.simple_statements.specs.SimpleStatements.{returns_view};
 ghost use Rattle.signatures.specs.Signatures.{is_named};
 ghost use Rattle.types_go.specs.Functions.{returns_of, may_end, parts, function_with, function, functions_of, type_or_int, int_in, truth_in, first_value, behind_variable, initial, globals_of, functions, globals, behind_body, behind_function, behind_members};
@@ -26,7 +27,7 @@ use crate::blocks::check_stmts;
 use crate::members::Member;
 use base::{NoMemory, ValueType};
 use constants::{Constant, Fixed, int_constant};
-use expression_types::{check_expr, known_type};
+use expression_types::{Wanted, check_expr, known_type, wanted_by};
 use function_heads::{assemble, check_head, check_types, missing_body_fault};
 use names::{Known, Scope, ValueId, is_blank, spelled};
 use package_values::{Item, constant_in};
@@ -56,11 +57,26 @@ pub struct Members {
     pub fault: Option<Fault>,
 }
 
+/// What the places of results of these types ask for.
+fn all_wanted_by(alloc: Global, types: &[Option<ValueType>]) -> Result<Vec<Wanted>, NoMemory>
+    ensures { IfOk result (λ r. r.items ≡ map wanted_by types.now) }
+{
+    Ok(types.iter().map(|t| wanted_by(*t)).collect(alloc)?)
+}
+
+/// What the places of some results ask for.
+fn results_wanted(alloc: Global, slots: &[Slot]) -> Result<Vec<Wanted>, NoMemory>
+    ensures { IfOk result (λ v. v.items ≡ map (λ slot. wanted_by slot.value_type) slots.now) }
+{
+    let types = slot_types(alloc, slots)?;
+    all_wanted_by(alloc, &types)
+}
+
 /// What a function with these results gives back.
 fn returns_of(alloc: Global, results: &Params, slots: &[Slot]) -> Result<Returns, NoMemory>
-    ensures { IfOk result (λ r. returns_view r ≡ record { wanted = map (λ slot. slot.value_type) slots.now; may_be_bare = (length slots.now == 0) || is_named (parameters_of results.now) }) }
+    ensures { IfOk result (λ r. returns_view r ≡ record { wanted = map (λ slot. wanted_by slot.value_type) slots.now; may_be_bare = (length slots.now == 0) || is_named (parameters_of results.now) }) }
 {
-    let wanted = slot_types(alloc, slots)?;
+    let wanted = results_wanted(alloc, slots)?;
     Ok(Returns {
         wanted,
         may_be_bare: slots.is_empty() || is_named(results),

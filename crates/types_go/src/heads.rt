@@ -20,7 +20,9 @@ ghost use Rattle.types_go.specs.StatementFaults.{over_fault, given_fault, keys_f
 ghost use Rattle.types_go.specs.StatementPassing.{choice_view, head_view};
 
 use base::{NoMemory, Pos, ValueType};
-use expression_types::{Condition, Test, accepts, check_condition, check_single, check_test};
+use expression_types::{
+    Condition, Test, Wanted, accepts, check_condition, check_single, check_test,
+};
 use names::{Scope, is_blank, name_in, spelled};
 use operators::{Operand, as_value, constant_range_fault, is_assignable};
 use signatures::{Role, check_entries, entry_lefts, fault_where, slots_with};
@@ -347,7 +349,7 @@ fn number_type(operand: &Option<Operand>) -> Option<ValueType>
 }
 
 /// The fault of a left side of another type.
-fn given_fault(given: Option<ValueType>, wanted: Option<ValueType>, pos: Pos) -> Option<Fault>
+fn given_fault(given: Option<ValueType>, wanted: Wanted, pos: Pos) -> Option<Fault>
     ensures { result ≡ given_fault given wanted pos }
 {
     let own = Fault {
@@ -360,11 +362,7 @@ fn given_fault(given: Option<ValueType>, wanted: Option<ValueType>, pos: Pos) ->
     }
 }
 
-fn given_faults(
-    given: Option<ValueType>,
-    wanted: &[Option<ValueType>],
-    es: &[Expr],
-) -> Option<Fault>
+fn given_faults(given: Option<ValueType>, wanted: &[Wanted], es: &[Expr]) -> Option<Fault>
     ensures { IsLeast (GivenFail given wanted.now (trees_of es.now)) result }
 {
     let mut fault = None;
@@ -375,7 +373,7 @@ fn given_faults(
     fault
 }
 
-fn all_take(given: ValueType, wanted: &[Option<ValueType>]) -> bool
+fn all_take(given: ValueType, wanted: &[Wanted]) -> bool
     ensures { result ≡ all_accept (Some given) wanted.now }
 {
     let mut all = true;
@@ -385,8 +383,8 @@ fn all_take(given: ValueType, wanted: &[Option<ValueType>]) -> bool
     all
 }
 
-/// Whether left sides that ask for these types may get a value of one.
-fn all_accept(given: Option<ValueType>, wanted: &[Option<ValueType>]) -> bool
+/// Whether left sides that ask for this may get a value of a type.
+fn all_accept(given: Option<ValueType>, wanted: &[Wanted]) -> bool
     ensures { result ≡ all_accept given wanted.now }
 {
     match given {

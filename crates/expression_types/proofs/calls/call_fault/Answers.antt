@@ -1,6 +1,6 @@
-use Rattle.std.proofs.Common.{List, Option, subst}
+use Rattle.std.proofs.Common.{List, subst}
 use Rattle.type_faults.specs.declared.fault.FaultKind.TheVariants.{WrongCount}
-use Rattle.base.specs.declared.value_type.ValueType.{ValueType}
+use Rattle.expression_types.specs.declared.wants.Wanted.{Wanted}
 use Rattle.type_faults.specs.Least.{IsLeast}
 use Rattle.type_faults.specs.Faults.{fault}
 use Rattle.expression_types.specs.Faults.{TakeFails}
@@ -23,7 +23,7 @@ pub returns-in-Function : goal.returns-in-Function
 returns-in-Function c =
     let own = fault WrongCount c.args.pos in
     let os = seens c.args.arguments.now in
-    rw (c.in-Function.is) (subst (λ (ps : List (Option ValueType)). IsLeast (TakeFails own ps os) c.places_fault-in-Function.result) c.deref.ensures.value c.places_fault-in-Function.ensures)
+    rw (c.in-Function.is) (subst (λ (ps : List Wanted). IsLeast (TakeFails own ps os) c.places_fault-in-Function.result) c.deref.ensures.value c.places_fault-in-Function.ensures)
 
 pub returns-in-Conversion : goal.returns-in-Conversion
 returns-in-Conversion c = rw (c.in-Conversion.is) c.conversion_fault.ensures

@@ -1,9 +1,9 @@
 use Rattle.std.proofs.Common.{◌≤◌, ◌<◌, min, length, arith}
 use Rattle.type_faults.proofs.Leasts.{kept_end}
 use Rattle.expression_types.specs.declared.gives.Item.{Item}
-use Rattle.expression_types.specs.Faults.{TypesFail}
+use Rattle.expression_types.specs.Faults.{TypesFail, type_fault}
 use Rattle.expression_types.specs.Passing.{seens}
-use Rattle.expression_types.proofs.Places.{types_kept, types_fail_end}
+use Rattle.expression_types.proofs.Places.{sides_kept, sides_end}
 use Rattle.expression_types.proofs.values.types_fault.Goals as goal
 
 pub loop-index-preserved : goal.loop-index-preserved
@@ -14,7 +14,7 @@ loop-index-preserved c =
     let item : Item = c.index-items-index.result in
     let l : k < length ps = omega (arith, c.loop-index-test.true, c.min-index-end.ensures) in
     let m : k < length xs = omega (arith, c.loop-index-test.true, c.min-index-end.ensures) in
-    rw (c.lesser-fault.ensures) (types_kept ps xs k c.loop-index.fault c.type_fault.result _ item l m c.index-items-index.is c.loop-index.invariant c.type_fault.ensures)
+    rw (c.lesser-fault.ensures) (sides_kept type_fault ps xs k c.loop-index.fault c.type_fault.result _ item l m c.index-items-index.is c.loop-index.invariant c.type_fault.ensures)
 
 pub returns : goal.returns
 returns c =
@@ -22,4 +22,4 @@ returns c =
     let xs = c.args.items.now in
     let k = c.loop-index.index in
     let end : min (length ps) (length xs) ≤ k = omega (arith, c.loop-index-test.false, c.min-index-end.ensures) in
-    kept_end (TypesFail ps (seens xs)) _ c.loop-index.fault (types_fail_end ps xs k end) c.loop-index.invariant
+    kept_end (TypesFail ps (seens xs)) _ c.loop-index.fault (sides_end type_fault ps xs k end) c.loop-index.invariant

@@ -13,9 +13,9 @@ loop-name-preserved c =
     let xs = c.args.names.now in
     let k = c.loop-name.name-index in
     let n : Name = get_or xs k no_name in
-    let so_far = c.loop-name.types.items in
+    let so_far = c.loop-name.all.items in
     let here : drop k xs ≡ n ∷ drop (k + 1) xs = from_there xs k no_name c.loop-name-test.true in
-    rw (c.in_ok-push.ensures.items, c.in_ok-value_type.ensures)
+    rw (c.in_ok-push.ensures.items, c.in_ok-wanted.ensures)
     (c.loop-name.invariant ∙ ap (λ (l : List Name). so_far ++ all_new_wanted text s l) here ∙ sym (append_assoc so_far (new_wanted text s n ∷ []) (all_new_wanted text s (drop (k + 1) xs))))
 
 pub returns : goal.returns
@@ -24,6 +24,6 @@ returns c =
     let s = scope_of c.args.scope.now in
     let xs = c.args.names.now in
     let k = c.loop-name.name-index in
-    let so_far = c.loop-name.types.items in
+    let so_far = c.loop-name.all.items in
     let none : drop k xs ≡ [] = nothing_left xs k (λ l. absurd (omega (arith, l, c.loop-name-test.false))) in
     sym (c.loop-name.invariant ∙ ap (λ (l : List Name). so_far ++ all_new_wanted text s l) none ∙ append-nil so_far)

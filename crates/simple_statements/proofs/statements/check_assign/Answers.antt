@@ -1,11 +1,11 @@
-use Rattle.std.proofs.Common.{◌≡◌, List, Option, map, ap, ◌∙◌, subst}
+use Rattle.std.proofs.Common.{◌≡◌, List, map, ap, ◌∙◌, subst}
 use Rattle.std.specs.Prelude.{option_and_then}
 use Rattle.std.specs.Option.{option_map}
 use Rattle.syntax.specs.Expressions.{exs_of}
 use Rattle.typed.specs.View.{left_of}
-use Rattle.base.specs.declared.value_type.ValueType.{ValueType}
 use Rattle.type_faults.specs.Least.{IsLeast}
 use Rattle.names.specs.Scope.{scope_of}
+use Rattle.expression_types.specs.declared.wants.Wanted.{Wanted}
 use Rattle.expression_types.specs.declared.gives.Item.{Item}
 use Rattle.expression_types.specs.Typing.{count}
 use Rattle.expression_types.specs.Faults.{PlacedFail}
@@ -28,7 +28,7 @@ returns-clause-fault c =
     let placed0 : IsLeast (PlacedFail c.deref-2.result.now (seens items)) c.placed_fault.result =
     subst (λ (l : List Item). IsLeast (PlacedFail c.deref-2.result.now (seens l)) c.placed_fault.result) c.deref-3.ensures.value c.placed_fault.ensures in
     let placed : IsLeast (PlacedFail ps (seens items)) c.placed_fault.result =
-    subst (λ (l : List (Option ValueType)). IsLeast (PlacedFail l (seens items)) c.placed_fault.result) c.deref-2.ensures.value placed0 in
+    subst (λ (l : List Wanted). IsLeast (PlacedFail l (seens items)) c.placed_fault.result) c.deref-2.ensures.value placed0 in
     rw (c.lesser-2.ensures, c.lesser.ensures, c.lesser-values_fault.ensures, c.count_fault.ensures, counted, c.place_count.ensures, c.lefts_pos.ensures)
     (assign_least text s ns c.args.pos es ls ps (seens items) c.in_ok-left.left.fault listed.fault c.placed_fault.result c.in_ok-left.ensures.lefts c.in_ok-left.ensures.wanted c.in_ok-listed.ensures.seen
     c.in_ok-left.ensures.fault c.in_ok-listed.ensures.fault placed)

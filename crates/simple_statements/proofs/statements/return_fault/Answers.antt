@@ -1,9 +1,9 @@
-use Rattle.std.proofs.Common.{◌≡◌, false, List, Option, sym, ◌∙◌, subst, length}
+use Rattle.std.proofs.Common.{◌≡◌, false, List, sym, ◌∙◌, subst, length}
 use Rattle.std.specs.Prelude.{◌==◌}
 use Rattle.type_faults.specs.declared.fault.FaultKind.TheVariants.{ResultCount}
-use Rattle.base.specs.declared.value_type.ValueType.{ValueType}
 use Rattle.type_faults.specs.Least.{IsLeast}
 use Rattle.type_faults.specs.Faults.{fault}
+use Rattle.expression_types.specs.declared.wants.Wanted.{Wanted}
 use Rattle.expression_types.specs.Faults.{TakeFails}
 use Rattle.expression_types.specs.Passing.{seens}
 use Rattle.simple_statements.proofs.statements.return_fault.Goals as goal
@@ -15,4 +15,4 @@ returns-else-is_empty c =
     let items = c.args.items.now in
     let empty : (length items == 0) ≡ false = sym c.is_empty.ensures ∙ c.if-is_empty.false in
     return_least c.args.pos (returns_view c.args.returns.now) items c.take_fault.result empty
-    (subst (λ (l : List (Option ValueType)). IsLeast (TakeFails (fault ResultCount c.args.pos) l (seens items)) c.take_fault.result) c.deref.ensures.value c.take_fault.ensures)
+    (subst (λ (l : List Wanted). IsLeast (TakeFails (fault ResultCount c.args.pos) l (seens items)) c.take_fault.result) c.deref.ensures.value c.take_fault.ensures)

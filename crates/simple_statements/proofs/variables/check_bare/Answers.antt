@@ -3,12 +3,12 @@ use Rattle.syntax.specs.Expressions.{exs_of, ex_in}
 use Rattle.syntax.specs.Statements.{value_spec_of}
 use Rattle.type_faults.specs.Least.{IsLeast}
 use Rattle.names.specs.Scope.{scope_of}
-use Rattle.expression_types.specs.Typing.{seen}
+use Rattle.expression_types.specs.Typing.{spec_wanted, seen}
 use Rattle.simple_statements.proofs.variables.check_bare.Goals as goal
 use Rattle.signatures.specs.declared.slots.Slot.{Slot}
 use Rattle.signatures.specs.declared.entries.Role.TheVariants.{Parameter}
 use Rattle.signatures.specs.EntryFaults.{EntriesFail}
-use Rattle.simple_statements.specs.SimpleStatements.{taken_types, spec_wanted, spec_slots}
+use Rattle.simple_statements.specs.SimpleStatements.{taken_types, spec_slots}
 use Rattle.simple_statements.proofs.Items.{bare_slots}
 
 pub returns-clause-fault : goal.returns-clause-fault

@@ -1,18 +1,17 @@
-use Rattle.std.proofs.Common.{◌≡◌, List, Option, ap, ◌∙◌, subst}
+use Rattle.std.proofs.Common.{◌≡◌, List, ap, ◌∙◌, subst}
 use Rattle.syntax.specs.Expressions.{exs_of}
 use Rattle.syntax.specs.Statements.{value_spec_of}
 use Rattle.type_faults.specs.declared.fault.FaultKind.TheVariants.{WrongCount}
-use Rattle.base.specs.declared.value_type.ValueType.{ValueType}
 use Rattle.type_faults.specs.Least.{IsLeast}
 use Rattle.type_faults.specs.Faults.{fault}
 use Rattle.type_faults.proofs.Leasts.{least_join}
 use Rattle.names.specs.Scope.{scope_of}
-use Rattle.expression_types.specs.Typing.{Seen, seen}
+use Rattle.expression_types.specs.declared.wants.Wanted.{Wanted}
+use Rattle.expression_types.specs.Typing.{Seen, spec_wanted, seen}
 use Rattle.expression_types.specs.Faults.{TakeFails, FailsInEach}
 use Rattle.syntax.specs.declared.expression.Expr.{Expr}
 use Rattle.expression_types.specs.Passing.{seens}
 use Rattle.simple_statements.proofs.variables.check_values.Goals as goal
-use Rattle.simple_statements.specs.SimpleStatements.{spec_wanted}
 
 pub returns-clause-fault : goal.returns-clause-fault
 returns-clause-fault c =
@@ -27,5 +26,5 @@ returns-clause-fault c =
     let os : seens c.deref-3.result.now ≡ seen text s v.values = ap seens c.deref-3.ensures.value ∙ c.in_ok-listed.ensures.seen ∙ ap (λ (l : List Expr). seen text s (exs_of l)) es in
     let taken : IsLeast (TakeFails own (spec_wanted text s v) (seen text s v.values)) c.take_fault-values_fault.result =
     subst (λ (l : List Seen). IsLeast (TakeFails own (spec_wanted text s v) l) c.take_fault-values_fault.result) os
-    (subst (λ (l : List (Option ValueType)). IsLeast (TakeFails own l (seens c.deref-3.result.now)) c.take_fault-values_fault.result) ps c.take_fault-values_fault.ensures) in
+    (subst (λ (l : List Wanted). IsLeast (TakeFails own l (seens c.deref-3.result.now)) c.take_fault-values_fault.result) ps c.take_fault-values_fault.ensures) in
     rw (c.lesser.ensures) (least_join _ _ listed.fault c.take_fault-values_fault.result each taken)

@@ -16,6 +16,7 @@ use Rattle.signatures.specs.Entries.{entries, behind_entries}
 use Rattle.signatures.specs.EntryFaults.{EntriesFail}
 use Rattle.signatures.specs.Signatures.{params_of, is_named, slot_of, slots_of}
 use Rattle.signatures.proofs.Growth.{grows_entries}
+use Rattle.expression_types.specs.Typing.{wanted_by}
 use Rattle.simple_statements.specs.SimpleStatements.{Returns, returns_view}
 use Rattle.types_go.specs.Statements.{statements, behind_all}
 use Rattle.types_go.specs.StatementFaults.{FailsInStatements}
@@ -24,10 +25,10 @@ use Rattle.types_go.proofs.StatementGrowth.{grows_all}
 use Rattle.types_go.proofs.Lines.{parts_of}
 
 -- results that were looked at
-returns_is : (text : List ℕ) (heads : Scope) (g : TreeFunction) (r : Returns) (slots : List Slot) → r ≡ record { wanted = map (λ (slot : Slot). slot.value_type) slots; may_be_bare = (length slots == 0) || is_named g.results } → slots ≡ slots_of text heads g.results → r ≡ returns_of text heads g
+returns_is : (text : List ℕ) (heads : Scope) (g : TreeFunction) (r : Returns) (slots : List Slot) → r ≡ record { wanted = map (λ (slot : Slot). wanted_by slot.value_type) slots; may_be_bare = (length slots == 0) || is_named g.results } → slots ≡ slots_of text heads g.results → r ≡ returns_of text heads g
 returns_is text heads g r slots is slots_are =
-    is ∙ ap (λ (l : List Slot). record { wanted = map (λ (slot : Slot). slot.value_type) l; may_be_bare = (length l == 0) || is_named g.results }) slots_are
-    ∙ ap (λ n. record { wanted = map (λ (slot : Slot). slot.value_type) (slots_of text heads g.results); may_be_bare = (n == 0) || is_named g.results }) (length-map (params_of g.results) (slot_of text heads))
+    is ∙ ap (λ (l : List Slot). record { wanted = map (λ (slot : Slot). wanted_by slot.value_type) l; may_be_bare = (length l == 0) || is_named g.results }) slots_are
+    ∙ ap (λ n. record { wanted = map (λ (slot : Slot). wanted_by slot.value_type) (slots_of text heads g.results); may_be_bare = (n == 0) || is_named g.results }) (length-map (params_of g.results) (slot_of text heads))
 
 pub check_stmts-requires : goal.check_stmts-requires
 check_stmts-requires c =

@@ -1,9 +1,9 @@
-use Rattle.std.proofs.Common.{◌≡◌, List, Option, ◌∙◌, subst}
-use Rattle.base.specs.declared.value_type.ValueType.{ValueType}
+use Rattle.std.proofs.Common.{◌≡◌, List, ◌∙◌, subst}
 use Rattle.syntax.specs.Expressions.{exs_of}
 use Rattle.type_faults.specs.Least.{IsLeast}
 use Rattle.type_faults.proofs.Leasts.{least_join}
 use Rattle.names.specs.Scope.{scope_of}
+use Rattle.expression_types.specs.declared.wants.Wanted.{Wanted}
 use Rattle.simple_statements.specs.SimpleStatements.{all_wanted}
 use Rattle.types_go.specs.StatementFaults.{GivenFail}
 use Rattle.types_go.proofs.heads.check_assigned.Goals as goal
@@ -12,5 +12,5 @@ pub returns-clause-fault : goal.returns-clause-fault
 returns-clause-fault c =
     let es = exs_of c.args.es.now in
     let types : c.deref.result.now ≡ all_wanted c.args.text.now (scope_of c.args.scope.now) es = c.deref.ensures.value ∙ c.in_ok-left.ensures.wanted in
-    let given = subst (λ (ps : List (Option ValueType)). IsLeast (GivenFail c.args.given ps es) c.given_faults-own.result) types c.given_faults-own.ensures in
+    let given = subst (λ (ps : List Wanted). IsLeast (GivenFail c.args.given ps es) c.given_faults-own.result) types c.given_faults-own.ensures in
     rw (c.lesser.ensures) (least_join _ _ c.in_ok-left.left.fault c.given_faults-own.result c.in_ok-left.ensures.fault given)

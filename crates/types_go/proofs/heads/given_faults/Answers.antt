@@ -1,4 +1,4 @@
-use Rattle.std.proofs.Common.{◌≡◌, ◌<◌, ◌≤◌, min, Bool, true, false, ltb, [], ◌∷◌, ◌⊎◌, inl, inr, ◌+◌, List, Option, None, refl, drop, get_or, length, ap, subst, arith}
+use Rattle.std.proofs.Common.{◌≡◌, ◌<◌, ◌≤◌, min, Bool, true, false, ltb, [], ◌∷◌, ◌⊎◌, inl, inr, ◌+◌, List, Option, refl, drop, get_or, length, ap, subst, arith}
 use Rattle.std.proofs.lemmas.Bool.{ltb-true, ltb-false}
 use Rattle.base.specs.declared.value_type.ValueType.{ValueType}
 use Rattle.syntax.specs.declared.expression.Expr.{Expr}
@@ -8,11 +8,13 @@ use Rattle.type_faults.specs.declared.fault.Fault.{Fault}
 use Rattle.type_faults.specs.Faults.{IsFault}
 use Rattle.type_faults.proofs.Leasts.{Kept, kept_start, kept_more, kept_end, leaf}
 use Rattle.type_faults.proofs.Lists.{from_there, from_one, nothing_left}
+use Rattle.expression_types.specs.declared.wants.Wanted.{Wanted}
+use Rattle.expression_types.specs.declared.wants.Wanted.TheVariants as wants
 use Rattle.types_go.proofs.heads.given_faults.Goals as goal
 use Rattle.types_go.specs.StatementFaults.{given_fault, GivenFail}
 
 -- after the last type or the last left side no rule fails
-none_fails : (t : Option ValueType) (ps : List (Option ValueType)) (es : Exs) (f : Fault) → (ps ≡ []) ⊎ (es ≡ none) → GivenFail t ps es f → ⊥
+none_fails : (t : Option ValueType) (ps : List Wanted) (es : Exs) (f : Fault) → (ps ≡ []) ⊎ (es ≡ none) → GivenFail t ps es f → ⊥
 none_fails t [] es f h k = k
 none_fails t (p ∷ ps) none f h k = k
 none_fails t (p ∷ ps) (some e es) f (inl i) k = cc i
@@ -28,15 +30,15 @@ loop-index-preserved c =
     let xs = c.args.es.now in
     let k = c.loop-index.index in
     let x : Expr = c.index-es-index.result in
-    let p : Option ValueType = get_or ps k None in
+    let p : Wanted = get_or ps k wants.Own in
     let l : k < length ps = omega (arith, c.loop-index-test.true, c.min-index-end.ensures) in
     let m : k < length xs = omega (arith, c.loop-index-test.true, c.min-index-end.ensures) in
-    let here : drop k ps ≡ p ∷ drop (k + 1) ps = from_there ps k None l in
+    let here : drop k ps ≡ p ∷ drop (k + 1) ps = from_there ps k wants.Own l in
     let there : drop k xs ≡ x ∷ drop (k + 1) xs = from_one xs k x m c.index-es-index.is in
     let own = given_fault t p (first_pos (ex_of x)) in
     let rest = GivenFail t (drop (k + 1) ps) (exs_of (drop (k + 1) xs)) in
     let whole = GivenFail t ps (exs_of xs) in
-    let kept1 = subst (λ (z : List (Option ValueType)). Kept whole (GivenFail t z (exs_of (drop k xs))) c.loop-index.fault) here c.loop-index.invariant in
+    let kept1 = subst (λ (z : List Wanted). Kept whole (GivenFail t z (exs_of (drop k xs))) c.loop-index.fault) here c.loop-index.invariant in
     let kept2 = subst (λ (z : List Expr). Kept whole (GivenFail t (p ∷ drop (k + 1) ps) (exs_of z)) c.loop-index.fault) there kept1 in
     rw (c.lesser-fault.ensures, c.given_fault-own.ensures, c.pos.ensures) (kept_more whole (IsFault own) rest c.loop-index.fault own kept2 (leaf own))
 
