@@ -1,6 +1,6 @@
 -- What a run of the machine and the theorem give together.
-use Rattle.std.proofs.Common.{◌≡◌, inl, inr, ℕ, zero, suc, ◌/◌, ◌^◌, ◌<◌, ◌≤◌, length, List, [], ◌∷◌, ◌++◌, Option, Some, None, Bool, true, false, sym, refl, ap, ◌∙◌, subst, arith, append_assoc}
-use Rattle.std.specs.Prelude.{◌≢◌, replicate, nat_le, if◌then◌else◌, slice_get, Result, Err}
+use Rattle.std.proofs.Common.{◌≡◌, inl, inr, ℕ, zero, suc, ◌/◌, ◌^◌, ◌<◌, ◌≤◌, length, List, [], ◌∷◌, ◌++◌, Option, Some, None, true, false, sym, refl, ap, ◌∙◌, subst, arith, append_assoc}
+use Rattle.std.specs.Prelude.{◌≢◌, replicate, nat_le, slice_get, Result, Err}
 use Rattle.outside.specs.Pending.{Pending, to_come}
 use Rattle.outside.specs.Took.{Took, TookPrefix}
 use Rattle.outside.proofs.Took.{Took-nothing}
@@ -20,15 +20,16 @@ use Rattle.machine.specs.Machine.{State, Does, Event, Printed, Asked, bytes_of, 
 use Rattle.machine.specs.Answers.{Answers, ReadInOrder, ReadsUpTo, WithAnswers, printed_by, state_of}
 use Rattle.machine.specs.declared.run_state.Panic.{Panic as MachinePanic}
 use Rattle.machine.specs.declared.run_state.Ending.{Ending as Stop}
-use Rattle.machine.specs.declared.run_state.Ending.TheVariants.{Exit as Stopped, Panic as Panicked, ReadFault, WriteFault, NoMemory, StackLimit as Limit, HeapLimit as Full, WildReturn, WildLink, WildAddress}
+use Rattle.machine.specs.declared.run_state.Ending.TheVariants.{Exit as Stopped, Panic as Panicked, ReadFault, WriteFault, NoMemory, StackLimit as Limit, HeapLimit as Full, WildReturn, WildLink, WildAddress, WildHeader}
 use Rattle.program_code.specs.Code.{code_of}
 use Rattle.program_code.proofs.Stands.{compiled}
 use Rattle.simulated_code.proofs.Follows.{simulated}
 use Rattle.simulated_code.specs.Correct.{same_event, same_fault, same_end, limits, first_words, target, entered, first_state, Simulated, AreNumbers}
-use Rattle.code_runs.specs.Runs.{asks_of, AsksFor, PrintsInPart, Ran, ReadBy, answer_to}
+use Rattle.code_runs.specs.Runs.{asks_of, AreBegun, AsksFor, FindsNoRoom, PrintsInPart, Ran, ReadBy, answer_to}
 use Rattle.code_runs.specs.declared.running.RunFault.{RunFault}
 use Rattle.code_runs.specs.declared.running.RunFault.TheVariants as fault
 use Rattle.code_runs.proofs.Items.{reading_of, are_numbers, has_answers}
+use Rattle.code_runs.proofs.Begun.{gated, shut}
 
 -- the theorem, of tables that are the program's code
 pub simulates : (p : Program) (code : Tables) → IsInForm p → code ≡ code_of p → Simulated p code
@@ -248,6 +249,13 @@ module _ (strings : List (List ℕ)) where
   link_is Turns x a = a
   link_is (Panic at f) x a = a
 
+  header_is : (e : Ending) (x : ℕ) → same_end strings e (WildHeader x) → ⊥
+  header_is (Exit n) x a = a
+  header_is (StackLimit u k l) x a = a
+  header_is (HeapLimit u k l) x a = a
+  header_is Turns x a = a
+  header_is (Panic at f) x a = a
+
   -- the steps' outcome against the source
   module _ (few many_turns : Outcome Sight Ending) (d : Does) (s : State) (answered : ℕ) (old new : Option (List ℕ)) (before now : ℕ) (low : Below same_event (same_end strings) few (shown_by d)) (high : Within (shown_by d) many_turns) where
     told : bytes_of (events_in (shown_by d)) ≡ printed_by d
@@ -305,14 +313,7 @@ module _ (strings : List (List ℕ)) where
     ran (Some (WildReturn x)) a = let m = ends (WildReturn x) a.0 in absurd (place_is m.ending x m.alike)
     ran (Some (WildLink x)) a = let m = ends (WildLink x) a.0 in absurd (link_is m.ending x m.alike)
     ran (Some (WildAddress x)) a = let m = ends (WildAddress x) a.0 in absurd (address_is m.ending x m.alike)
-
-gated : (b : Bool) (x y : Outcome Event Stop) → b ≡ true → (if b then x else y) ≡ x
-gated true x y e = refl
-gated false x y e = absurd (let f : false ≡ true = e in cc)
-
-shut : (b : Bool) (x y : Outcome Event Stop) → b ≡ false → (if b then x else y) ≡ y
-shut false x y e = refl
-shut true x y e = absurd (let f : true ≡ false = e in cc)
+    ran (Some (WildHeader x)) a = let m = ends (WildHeader x) a.0 in absurd (header_is m.ending x m.alike)
 
 module _ (p : Program) (code : Tables) (is : Simulated p code) (items : ℕ → Item) (numbers : AreNumbers items) (max heap_max steps : ℕ) (stack : max ≤ 2 ^ 32) (small : heap_max ≤ 2 ^ 32) where
   abbrev few : Outcome Sight Ending
@@ -324,10 +325,6 @@ module _ (p : Program) (code : Tables) (is : Simulated p code) (items : ℕ → 
   abbrev goal : Outcome Event Stop
   goal = target code items (first_words p.globals) p.main max heap_max steps
 
-  -- what the heap begins with
-  abbrev heap : Words
-  heap = record { words = first_words p.globals; max = heap_max }
-
   few_below : Below same_event (same_end p.strings) few goal
   few_below = is.at_least items numbers max heap_max (steps / 16) steps stack small (omega arith)
 
@@ -338,18 +335,22 @@ module _ (p : Program) (code : Tables) (is : Simulated p code) (items : ℕ → 
       (m, subst (λ x. Took old old x) (sym m.all) (Took-nothing old))
 
   -- where the package variables have no room
-  pub full : (old : Option (List ℕ)) (faults : ℕ) → nat_le (length (first_words p.globals)) heap_max ≡ false → Ran p.strings few turns (Err (fault.HeapLimit heap_max 1 heap_max)) 0 old old faults faults
-  full old faults passes =
-      let r = at_once (Full heap_max 1 heap_max) old (shut (nat_le (length (first_words p.globals)) heap_max) _ _ passes) in
-      (r.0.ended ∙ ap (λ x. Some x) (heap_is p.strings r.0.ending heap_max 1 heap_max r.0.alike), r.1, r.0.asked)
+  pub full : (old : Option (List ℕ)) (faults used asked : ℕ) → FindsNoRoom heap_max (first_words p.globals) used asked → Ran p.strings few turns (Err (fault.HeapLimit used asked heap_max)) 0 old old faults faults
+  full old faults used asked passes =
+      let r = at_once (Full used asked heap_max) old (passes _) in
+      (r.0.ended ∙ ap (λ x. Some x) (heap_is p.strings r.0.ending used asked heap_max r.0.alike), r.1, r.0.asked)
 
   -- where there is no memory for them, or for the first frame
   pub unready : (old : Option (List ℕ)) (faults : ℕ) → Ran p.strings few turns (Err fault.NoMemory) 0 old old faults faults
   unready old faults = ((output turns, record { done = []; splits = refl; took = Took-nothing old }), omega arith)
 
-  module _ (room : nat_le (length (first_words p.globals)) heap_max ≡ true) (fn : Entry) (entry : slice_get code.funcs p.main ≡ Some fn) where
+  -- where they have, and the heap begins with these words
+  module _ (taken : List ℕ) (room : AreBegun heap_max (first_words p.globals) taken) (fn : Entry) (entry : slice_get code.funcs p.main ≡ Some fn) where
+    abbrev heap : Words
+    heap = record { words = taken; max = heap_max }
+
     enters : goal ≡ entered code items max heap (Some fn) steps
-    enters = gated (nat_le (length (first_words p.globals)) heap_max) _ _ room ∙ ap (λ (f : Option Entry). entered code items max heap f steps) entry
+    enters = room _ ∙ ap (λ (f : Option Entry). entered code items max heap f steps) entry
 
     -- of a block of words that is the first frame, and such a heap
     composed : (block : List ℕ) (first : Words) (s : State) (answered : ℕ) (e : Option Stop) (old new : Option (List ℕ)) (before now : ℕ) → nat_le fn.frame max ≡ true → block ≡ replicate fn.frame 0 → first ≡ heap
@@ -405,6 +406,7 @@ answered_by (Some (Full u k l)) old new answers r = (new, r)
 answered_by (Some (WildReturn x)) old new answers r = (new, r)
 answered_by (Some (WildLink x)) old new answers r = (new, r)
 answered_by (Some (WildAddress x)) old new answers r = (new, r)
+answered_by (Some (WildHeader x)) old new answers r = (new, r)
 
 -- what a run of the machine read is what the run of the program read
 pub read_by : (e : Option Stop) (r : Result ℕ RunFault) (reader : Pending) (left new : Option (List ℕ)) (same gone : Type 0) (step_claim : (ℕ → Item) → ℕ → ℕ → Type 0) (claim : (ℕ → Item) → ℕ → Type 0)

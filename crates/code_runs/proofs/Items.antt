@@ -1,5 +1,5 @@
 -- The answers that came from an input, as the beginning of its items.
-use Rattle.std.proofs.Common.{◌≡◌, refl, ap, subst, arith, ℕ, zero, suc, ◌+◌, List, [], ◌∷◌, None}
+use Rattle.std.proofs.Common.{◌≡◌, ap, subst, arith, ℕ, zero, suc, ◌+◌, List, [], ◌∷◌, None}
 use Rattle.std.specs.Prelude.{IfSome, FitsSigned}
 use Rattle.std.specs.Int.{w64}
 use Rattle.meaning.specs.Meaning.{Item}

@@ -1,2 +1,2 @@
--- The contract: `ReadBy` and `Ran`, what a run read and how it answered. Inside: `answer_to` and `begun_word`.
+-- The contract: `ReadBy` and `Ran`, what a run read and how it answered. Inside: `answer_to`, and how the package variables begin.
 pub mod Runs

@@ -1,20 +1,25 @@
 -- How a run answered, against what the source shows.
-use Rattle.std.specs.Prelude.{◌≡◌, ◌≢◌, ◌⊎◌, ℕ, zero, suc, ◌/◌, ◌<◌, ◌≤◌, List, [], ◌++◌, length, Option, Some, None, Result, Ok, Err}
+use Rattle.std.specs.Prelude.{◌≡◌, ◌≢◌, ◌⊎◌, ℕ, zero, suc, ◌/◌, ◌<◌, ◌≤◌, List, [], ◌++◌, length, get_or, Option, Some, None, Result, Ok, Err}
 use Rattle.outside.specs.Causes.{Rose}
 use Rattle.outside.specs.Took.{Took, TookPrefix}
 use Rattle.typed_syntax.specs.Positions.{Position}
 use Rattle.typed_syntax.specs.Syntax.{Program}
+use Rattle.typed_syntax.specs.Types.{TypeTree, ints}
+use Rattle.typed_syntax.specs.Words.{words_of}
 use Rattle.typed.specs.declared.expr.Const.{Const}
-use Rattle.typed.specs.View.{value_of}
+use Rattle.typed.specs.declared.program.PackageVariable.{PackageVariable}
+use Rattle.typed.specs.View.{first_value, value_of}
 use Rattle.meaning.specs.Trace.{Ending, Exit, Panic, StackLimit, HeapLimit, Fault}
 use Rattle.meaning.specs.Meaning.{Item}
 use Rattle.meaning.specs.Output.{Sight, printing, asking, source, output}
 use Rattle.simulation.specs.Outcome.{Outcome, Gives, Ends, Unfinished, ending_in}
+use Rattle.heap_bump.specs.Words.{with_word}
+use Rattle.machine.specs.Machine.{Event}
 use Rattle.machine.specs.Answers.{AllNumbers, ReadInOrder, HasFrom}
 use Rattle.machine.specs.declared.run_state.Ending.{Ending as Stop}
 use Rattle.machine.specs.declared.run_state.Ending.TheVariants as Machine
 use Rattle.program_code.specs.Code.{word_of}
-use Rattle.simulated_code.specs.Correct.{AreNumbers, limits, same_fault}
+use Rattle.simulated_code.specs.Correct.{AreNumbers, begun, limits, same_fault}
 use Rattle.code_runs.specs.declared.running.RunFault.{RunFault}
 use Rattle.code_runs.specs.declared.running.RunFault.TheVariants as fault
 
@@ -101,12 +106,30 @@ answer_to (Some (Machine.HeapLimit used asked limit)) = Some (Err (fault.HeapLim
 answer_to (Some (Machine.WildReturn place)) = None
 answer_to (Some (Machine.WildLink place)) = None
 answer_to (Some (Machine.WildAddress address)) = None
+answer_to (Some (Machine.WildHeader long)) = None
 
--- why a word more has no room in a heap: memory was refused, or it is full, and the limit is reported
-abbrev pub IsHeapFault : (is_full : Type 0) → (used max : ℕ) → RunFault → Type 0
-IsHeapFault is_full used max e = (e ≡ fault.NoMemory) ⊎ (is_full × (e ≡ fault.HeapLimit used 1 max))
+-- why words have no room in a heap: memory was refused, or it has no room for as many, and the limit is reported
+abbrev pub IsHeapFault : (is_full : Type 0) → (used asked max : ℕ) → RunFault → Type 0
+IsHeapFault is_full used asked max e = (e ≡ fault.NoMemory) ⊎ (is_full × (e ≡ fault.HeapLimit used asked max))
 
--- the word that a package variable begins with: the zero value of each type stands as 0
-abbrev pub begun_word : Option Const → ℕ
-begun_word None = 0
-begun_word (Some c) = word_of (value_of c)
+-- the words that a package variable begins with, where these are the types of the sites
+abbrev pub begun_words : List TypeTree → PackageVariable → List ℕ
+begun_words sites g = words_of (first_value (get_or sites g.site.0 ints) g.value)
+
+-- words, of which the one at an address is now that of a constant, where there is one
+abbrev pub with_first : List ℕ → (at : ℕ) → Option Const → List ℕ
+with_first words at None = words
+with_first words at (Some c) = with_word words at (word_of (value_of c))
+
+-- package variables that begin with these words have room in a heap of at most max words, and this is the heap that a run of the code begins
+-- with
+abbrev pub AreBegun : (max : ℕ) → List (List ℕ) → (heap : List ℕ) → Type 0
+AreBegun max globals heap = (follow : List ℕ → Outcome Event Stop) → begun max [] globals follow ≡ follow heap
+
+-- one of them has none: so many words were taken before, and it asks for so many
+abbrev pub FindsNoRoom : (max : ℕ) → List (List ℕ) → (used asked : ℕ) → Type 0
+FindsNoRoom max globals used asked = (follow : List ℕ → Outcome Event Stop) → begun max [] globals follow ≡ Ends (Machine.HeapLimit used asked max)
+
+-- why a run did not begin: memory was refused, or the first package variable without room is reported
+abbrev pub IsBeginFault : (max : ℕ) → List (List ℕ) → RunFault → Type 0
+IsBeginFault max globals e = (e ≡ fault.NoMemory) ⊎ ((used : ℕ) × (asked : ℕ) × (e ≡ fault.HeapLimit used asked max) × FindsNoRoom max globals used asked)

@@ -21,7 +21,7 @@ use typed::Program;
 /// Why a program's run did not come to its end.
 #[derive(Clone, Copy, Debug, PartialEq, Eq, Error)]
 pub enum RunFault {
-    /// Memory for a frame was refused. What was written is a beginning of the program's output.
+    /// Memory for a frame, or for words of the heap, was refused. What was written is a beginning of the program's output.
     #[error("no memory")]
     NoMemory,
     /// The input failed where the program asked for an item. The sink took all that the program prints before.
@@ -39,7 +39,7 @@ pub enum RunFault {
     /// A frame would have passed the limit of the stack: the words in use, those asked for, and the limit.
     #[error("stack used {used} asked {asked} limit {limit}")]
     StackLimit { used: u64, asked: u64, limit: u64 },
-    /// The package variables would have passed the limit of the heap: the words taken, those asked for, and the limit.
+    /// Words would have passed the limit of the heap: those taken, those asked for, and the limit.
     #[error("heap used {used} asked {asked} limit {limit}")]
     HeapLimit { used: u64, asked: u64, limit: u64 },
 }
@@ -77,8 +77,12 @@ fn answer(ending: Option<Ending>) -> Result<u8, RunFault>
             asked,
             limit,
         }),
-        Some(Ending::WildAddress(_) | Ending::WildReturn(_) | Ending::WildLink(_)) =>
-            unreachable!(),
+        Some(
+            Ending::WildAddress(_)
+            | Ending::WildReturn(_)
+            | Ending::WildLink(_)
+            | Ending::WildHeader(_),
+        ) => unreachable!(),
     }
 }
 
@@ -117,7 +121,7 @@ pub fn run<I: Source, O: Sink>(
     ensures source_later { I.faults input.old ≤ I.faults input.new }
     ensures read_fault { result ≡ Err RunFault.ReadFault → Rose (I.faults input.old) (I.faults input.new) }
 {
-    let mut heap = first_heap(alloc, &program.globals, heap_max)?;
+    let mut heap = first_heap(alloc, program, heap_max)?;
     let first = entry(code, program.main);
     let asked = first.frame as u64;
     if asked > stack_max {

@@ -1,12 +1,12 @@
 -- The code of a program is a code.
-use Rattle.std.proofs.Common.{◌≡◌, ◌⊎◌, inl, inr, ℕ, zero, suc, ◌+◌, ◌-◌, ◌<◌, ◌≤◌, Bool, true, false, List, [], ◌∷◌, ◌++◌, length, Some, refl, sym, ap, ◌∙◌, subst, arith, length-append, append_assoc}
+use Rattle.std.proofs.Common.{◌≡◌, ◌⊎◌, inl, inr, ℕ, zero, suc, ◌+◌, ◌-◌, ◌<◌, ◌≤◌, Bool, true, false, List, [], ◌∷◌, ◌++◌, length, map, Some, refl, sym, ap, ◌∙◌, subst, arith, length-append, append_assoc}
 use Rattle.std.specs.Prelude.{Option, None, slice_get, ⊤}
 use Rattle.std.proofs.lemmas.Option.{slice_get_within}
-use Rattle.isa.specs.Code.{Tables, CanCall, Fits as FitsAt, FitsPlace, IsCode, IsLinked}
+use Rattle.isa.specs.Code.{Tables, AddedFits, CanCall, Fits as FitsAt, FitsPlace, IsCode, IsLinked}
 use Rattle.isa.specs.declared.func.Func.{Func as Entry}
 use Rattle.isa.specs.declared.instr.Instr.{Instr}
 use Rattle.isa.specs.declared.instr.BinOp.TheVariants as Word
-use Rattle.isa.specs.declared.instr.Instr.TheVariants.{Const, Zero, Move, MoveWords, Same, Differ, Bin, Un, Jump, JumpZero, Call, Argument, ArgumentWords, SetResults, Load, Store, Address, Offset, Index, ReadInt, PrintInt, PrintBool, PrintText, PrintSpace, PrintLine, Return, Exit, PanicText, PanicInt, PanicBool}
+use Rattle.isa.specs.declared.instr.Instr.TheVariants.{Const, Zero, Move, MoveWords, Same, Differ, Bin, Un, Jump, JumpZero, Call, Argument, ArgumentWords, SetResults, Load, Store, Address, Offset, Index, SliceIndex, Slice, Born, Alloc, Make, Append, Copy, ReadInt, PrintInt, PrintBool, PrintText, PrintSpace, PrintLine, Return, Exit, PanicText, PanicInt, PanicBool}
 use Rattle.typed_syntax.specs.declared.operators.BinOp.{BinOp}
 use Rattle.typed_syntax.specs.declared.operators.BinOp.TheVariants.{Add, Sub, Mul, Div, Rem, And, Or, Xor, AndNot, ShiftLeft, ShiftRight, Equal, NotEqual, Less, LessEqual, Greater, GreaterEqual}
 use Rattle.typed_syntax.specs.declared.operators.UnOp.{UnOp}
@@ -18,7 +18,7 @@ use Rattle.typed_syntax.specs.Form.{scope_in, body_first, IsInForm}
 use Rattle.typed_syntax.specs.Frames.{far, steps_far, words_between, frame_of}
 use Rattle.expression_code.specs.Temps.{SiteFits, IndicesFit, PlaceFits, AddressFits, reached, CallFits, Fits, OperandsFit, StepsFitIn, ElementsFitIn, ExsFitIn}
 use Rattle.codegen.specs.Temps.{SitesFit, sites_words, ParamsFitIn, LeftFits, LeftsFitIn, ValuesFit, RenewFits, ReadyFitIn, PiecesFitIn, TestFitsIn, StFitsIn, StsFitIn, FuncFitsIn}
-use Rattle.program_code.specs.Code.{Slots, temp, site_slot, site_type, part_slot, part_words, moves, zeros, first_width, other_widths, operation, binary_code, unary_code, gap_code, gap_size, above_address, steps_above, place_above, lefts_above, index_code, steps_address, address_code, address_size, fetch_part, fetch_code, land_part, land_code, read_code, write_code, move_code, result_code, call_code, ex_code, exs_code, place_code, steps_code, elements_code, ready_code, place_size, steps_size, place_end, elements_size, lefts_sized, lefts_end, pieces_code, test_code, shown_code, raised_code, show_more, show_plain, show_code, lefts_code, lefts_size, element_code, array_code, named_write_code, named_read_code, leave_code, values_code, params_code, zeros_code, renew_code, renew_size, size, exs_size, pieces_size, test_size, st_size, sts_size, st_code, sts_code, slots_of, entry_code, entry_size, func_code, func_size, entry_of, funcs_code, funcs_owners, funcs_entries, code_of}
+use Rattle.program_code.specs.Code.{Slots, temp, site_slot, site_type, global_type, part_slot, part_words, moves, zeros, first_width, other_widths, operation, binary_code, unary_code, gap_code, gap_size, above_address, steps_above, place_above, lefts_above, index_code, steps_address, address_code, address_size, fetch_part, fetch_code, land_part, land_code, read_code, write_code, move_code, result_code, call_code, ex_code, exs_code, place_code, steps_code, elements_code, ready_code, place_size, steps_size, place_end, elements_size, lefts_sized, lefts_end, pieces_code, test_code, shown_code, raised_code, show_more, show_plain, show_code, lefts_code, lefts_size, element_code, array_code, named_write_code, named_read_code, leave_code, values_code, params_code, zeros_code, renew_code, renew_size, size, exs_size, pieces_size, test_size, st_size, sts_size, st_code, sts_code, slots_of, entry_code, entry_size, func_code, func_size, entry_of, funcs_code, funcs_owners, funcs_entries, code_of}
 use Rattle.program_code.proofs.Rooms.{steps_from}
 use Rattle.program_code.proofs.Sizes.{length_func, place_sum, place_ends, lefts_sum, lefts_ends}
 use Rattle.program_code.proofs.Stands.{same_some, start_of, some_size, length_owners, stands, located, entered_from, exists}
@@ -50,6 +50,13 @@ module _ (fns : List Entry) (strings slots incoming start end : ℕ) where
   Ok (Address a b) = (a < slots) × (b < slots)
   Ok (Offset a b off) = (a < slots) × (b < slots)
   Ok (Index a b c len w) = (1 ≤ len) × (1 ≤ w) × (a < slots) × (b < slots) × (c < slots)
+  Ok (SliceIndex a b c w) = (1 ≤ w) × (a < slots) × (b + 3 ≤ slots) × (c < slots)
+  Ok (Slice a b c w) = (1 ≤ w) × (a + 3 ≤ slots) × (b + 3 ≤ slots) × (c + 2 ≤ slots)
+  Ok (Born a n site) = a + n ≤ slots
+  Ok (Alloc a n site) = a < slots
+  Ok (Make a w site) = (1 ≤ w) × (a + 3 ≤ slots)
+  Ok (Append added a b c d w site) = (1 ≤ w) × (a + 3 ≤ slots) × (b + 3 ≤ slots) × AddedFits slots added c d w
+  Ok (Copy a b c w) = (1 ≤ w) × (a < slots) × (b + 3 ≤ slots) × (c + 3 ≤ slots)
   Ok (PrintInt a) = a < slots
   Ok (PrintBool a) = a < slots
   Ok (PrintText number) = number < strings
@@ -70,7 +77,7 @@ module _ (fns : List Entry) (strings slots incoming start end : ℕ) where
 module _ (p : Program) (solid : (site : ℕ) → 0 < site_width p site) (outgoing temps first n : ℕ) (fns : List Entry) (strings arguments wanted start end : ℕ)
     (can : (f : ℕ) → f < length p.funcs → arguments_of p f + results_of p f ≤ outgoing → CanCall fns (outgoing + temps + words_between p.sites first n) f) where
   abbrev s : Slots
-  s = record { outgoing = outgoing; temps = temps; first = first; sites = p.sites }
+  s = record { outgoing = outgoing; temps = temps; first = first; sites = p.sites; globals = map (λ g. g.0) p.globals }
 
   abbrev room : ℕ
   room = outgoing + temps + words_between p.sites first n
@@ -170,7 +177,7 @@ module _ (p : Program) (solid : (site : ℕ) → 0 < site_width p site) (outgoin
   address_ok : (q : Pl) (first at : ℕ) (is : List Instr) → AddressFits temps at q → place_above q first ≤ temps → PlaceFits s n q → Are is → Are (address_code s q first at ++ is)
   address_ok (local site steps) first at is a l f g =
       let k = part_in site steps f in let some = f.1 in steps_address_ok (site_slot s site) (site_type s site) steps first at is a l f.3 (omega (arith, k, some)) g
-  address_ok (global number steps) first at is a l f g = (omega (arith, a), g)
+  address_ok (global number steps) first at is a l f g = (omega (arith, a), index_ok (global_type s number) steps first at is (omega (arith, a)) l f.3 g)
 
   fetch_part_ok : (site : ℕ) (steps : Steps) (k at h : ℕ) (is : List Instr) → h + part_words s site (path_of steps) ≤ temps → PlaceFits s n (local site steps) → at + k ≤ temps → Are is → Are (fetch_part s site steps k at h ∷ is)
   fetch_part_ok site steps zero at h is l f a g = moves_ok (part_words s site (path_of steps)) (temp s h) (part_slot s site (path_of steps)) is f.1 (omega (arith, l)) (part_in site steps f) g
@@ -182,11 +189,11 @@ module _ (p : Program) (solid : (site : ℕ) → 0 < site_width p site) (outgoin
 
   fetch_ok : (q : Pl) (at h : ℕ) (is : List Instr) → h + reached s q ≤ temps → PlaceFits s n q → AddressFits temps at q → Are is → Are (fetch_code s q at h ∷ is)
   fetch_ok (local site steps) at h is l f a g = fetch_part_ok site steps (steps_far steps) at h is l f a g
-  fetch_ok (global number steps) at h is l f a g = ((omega arith, omega (arith, l), omega (arith, a)), g)
+  fetch_ok (global number steps) at h is l f a g = ((f.1, omega (arith, l), omega (arith, a)), g)
 
   land_ok : (q : Pl) (at h : ℕ) (is : List Instr) → h + reached s q ≤ temps → PlaceFits s n q → AddressFits temps at q → Are is → Are (land_code s q at h ∷ is)
   land_ok (local site steps) at h is l f a g = land_part_ok site steps (steps_far steps) at h is l f a g
-  land_ok (global number steps) at h is l f a g = ((omega arith, omega (arith, a), omega (arith, l)), g)
+  land_ok (global number steps) at h is l f a g = ((f.1, omega (arith, a), omega (arith, l)), g)
 
   -- the address of a place after its operands, which are in temps from h on
   read_ok : (q : Pl) (h : ℕ) → h + reached s q ≤ temps → PlaceFits s n q → AddressFits temps (place_above q h) q → Are (read_code s q (place_above q h) h)
@@ -557,6 +564,13 @@ module _ (owners : List ℕ) (f start end : ℕ) (own : (p : ℕ) → start ≤ 
   fits_at place slots incoming (Address a b) k (inr g) = (k.0, k.1, g)
   fits_at place slots incoming (Offset a b off) k (inr g) = (k.0, k.1, g)
   fits_at place slots incoming (Index a b c len w) k (inr g) = (k.0, k.1, k.2, k.3, k.4, g)
+  fits_at place slots incoming (SliceIndex a b c w) k (inr g) = (k.0, k.1, k.2, k.3, g)
+  fits_at place slots incoming (Slice a b c w) k (inr g) = (k.0, k.1, k.2, k.3, g)
+  fits_at place slots incoming (Born a n site) k (inr g) = (k, g)
+  fits_at place slots incoming (Alloc a n site) k (inr g) = (k, g)
+  fits_at place slots incoming (Make a w site) k (inr g) = (k.0, k.1, g)
+  fits_at place slots incoming (Append added a b c d w site) k (inr g) = (k.0, k.1, k.2, k.3, g)
+  fits_at place slots incoming (Copy a b c w) k (inr g) = (k.0, k.1, k.2, k.3, g)
   fits_at place slots incoming (PrintInt a) k (inr g) = (k, g)
   fits_at place slots incoming (PrintBool a) k (inr g) = (k, g)
   fits_at place slots incoming (PrintText number) k (inr g) = (k, g)

@@ -2,14 +2,16 @@
 use Rattle.std.proofs.Common.{◌≡◌, ◌⊎◌, inl, inr, ℕ, zero, suc, ◌+◌, ◌<◌, ◌≤◌, pos, Bool, true, false, List, [], ◌∷◌, Some, length, map, get_or, arith, sym, subst, ap, ◌∙◌, refl, suc-mul}
 use Rattle.std.specs.Prelude.{Option, None, max, slice_get}
 use Rattle.std.proofs.lemmas.Option.{slice_get_within}
+use Rattle.std.proofs.lemmas.List.{length-map}
+use Rattle.std.proofs.Math.ListN.{get_or-map}
 use Rattle.typed_syntax.specs.Types.{TypeTree, ints, bools, array_of, width, part_count, part_type, part_offset}
-use Rattle.typed_syntax.specs.Value.{int, bool, composite}
+use Rattle.typed_syntax.specs.Value.{Value, int, bool, composite}
 use Rattle.typed_syntax.specs.Paths.{Leads}
 use Rattle.value_laws.proofs.Parts.{element, leads_to, within}
-use Rattle.typed_syntax.specs.Syntax.{Ex, Exs, Pl, Steps, Left, Piece, St, Sts, Func, Program, constant, read, unary, binary, logical_and, logical_or, call, part_of, literal, Elements, no_elements, element as element_then, local, global, here, inner, at_index, none, more, results, read_int, blank, new, to, text, shown, over_int, over_length, over_copy, declare, assign, update, bump, discard, block, if_stmt, for_stmt, range, break_stmt, continue_stmt, return_stmt, print, panic, exit, done, next, all_width, each_width, arguments_in, result_words, arguments_of, results_of, type_named, site_type, site_width, path_of, wide, all_wide, ascend, words_before}
+use Rattle.typed_syntax.specs.Syntax.{Ex, Exs, Pl, Steps, Left, Piece, St, Sts, Func, Program, constant, read, unary, binary, logical_and, logical_or, call, part_of, literal, Elements, no_elements, element as element_then, local, global, here, inner, at_index, none, more, results, read_int, blank, new, to, text, shown, over_int, over_length, over_copy, declare, assign, update, bump, discard, block, if_stmt, for_stmt, range, break_stmt, continue_stmt, return_stmt, print, panic, exit, done, next, all_width, each_width, arguments_in, result_words, arguments_of, results_of, type_named, global_type, site_type, site_width, path_of, wide, all_wide, ascend, words_before}
 use Rattle.typed_syntax.specs.Form.{PlFits, StepsLead, ElementsFit, InScope, AllInScope, births, births_all, new_sites, scope_behind, scope_with, scope_after, SitesNext, LeftsFit, ExFits, ExsFit, TestFits, PiecesFit, ReturnFits, StFits, StsFit, ParamsFit, NamedFit, named_params, params_scope, scope_in, body_first, FuncFits, IsInForm}
 use Rattle.typed_syntax.specs.Frames.{far, left_far, lefts_far, behind_values, place_need, steps_need, elements_need, lefts_need, place_reach, steps_reach, elements_reach, lefts_reach, need, need_all, need_pieces, reach, reach_all, reach_pieces, test_need, test_reach, widest, st_need, sts_need, st_reach, sts_reach}
-use Rattle.program_code.specs.Code.{Slots, other_widths, part_words, above_address, place_above, lefts_above, slots_of}
+use Rattle.program_code.specs.Code.{Slots, other_widths, part_words, global_type as variable_type, global_words, above_address, place_above, lefts_above, slots_of}
 use Rattle.program_code.proofs.Rooms.{address_room, array_room, key_alone, key_room, lefts_others, lefts_room, place_others, place_room}
 use Rattle.program_code.proofs.Wide.{plain_one, takes_some, takes_one, place_is_of, wide_is, all_wide_is, widths_are}
 use Rattle.expression_code.specs.Temps.{SiteFits, IndicesFit, PlaceFits, CallFits, Fits, OperandsFit, StepsFitIn, ElementsFitIn, ExsFitIn, reached}
@@ -100,7 +102,18 @@ module _ (p : Program) (form : IsInForm p) where
   -- the frame's slots
   module _ (outgoing temps first n : ℕ) where
     abbrev s : Slots
-    s = record { outgoing = outgoing; temps = temps; first = first; sites = p.sites }
+    s = record { outgoing = outgoing; temps = temps; first = first; sites = p.sites; globals = map (λ g. g.0) p.globals }
+
+    -- the type of a package variable, by its site
+    same_global : (g : ℕ) → variable_type s g ≡ global_type p g
+    same_global g = ap (λ site. get_or p.sites site ints) (get_or-map (λ (v : ℕ × Value). v.0) p.globals g (0, int (pos 0)))
+
+    global_leads : (scope : List ℕ) (t : TypeTree) (g : ℕ) (steps : Steps) → PlFits p scope t (global g steps) → StepsLead p scope (variable_type s g) steps t
+    global_leads scope t g steps f = subst (λ u. StepsLead p scope u steps t) (sym (same_global g)) f.1
+
+    global_width : (scope : List ℕ) (t : TypeTree) (g : ℕ) (steps : Steps) → PlFits p scope t (global g steps) → global_words s g steps ≡ width t
+    global_width scope t g steps f =
+        let own = variable_type s g in ap width (leads_to own t (path_of steps) (steps_lead scope own t steps (global_leads scope t g steps f)))
 
     renew_fits : (h : ℕ) (sites : List ℕ) → h + widest p sites ≤ temps → RenewFits s h sites
     renew_fits h [] l = tt
@@ -112,14 +125,15 @@ module _ (p : Program) (form : IsInForm p) where
         let is : part_words s v path ≡ width t = ap width (leads_to own t path leads) in
         let some = f.2 in let l = within own t path leads in
         (b v f.0, omega (arith, is, some), omega (arith, is, l), indices_fit scope own t steps f.1 some)
-    place_fits scope t (global g steps) b f = tt
+    place_fits scope t (global g steps) b f =
+        let own = variable_type s g in let lead = global_leads scope t g steps f in let is = global_width scope t g steps f in
+        let there = f.0 in let some = f.2 in let l = within own t (path_of steps) (steps_lead scope own t steps lead) in
+        (omega (arith, there, length-map p.globals (λ (v : ℕ × Value). v.0)), omega (arith, is, some), omega (arith, is, l), indices_fit scope own t steps lead some)
 
-    -- the words of a place are those of its type, and a package variable's are some
+    -- the words of a place are those of its type
     reached_is : (scope : List ℕ) (t : TypeTree) (q : Pl) → PlFits p scope t q → reached s q ≤ width t
     reached_is scope t (local v steps) f = let is : part_words s v (path_of steps) ≡ width t = ap width (leads_to (site_type p v) t (path_of steps) (steps_lead scope (site_type p v) t steps f.1)) in omega (arith, is)
-    reached_is scope t (global g here) f = let some = form.solid (get_or p.globals g (0, int (pos 0))).0 in let is = ap width f.1 in omega (arith, some, is)
-    reached_is scope t (global g (inner i steps)) f = absurd f
-    reached_is scope t (global g (at_index at e m steps)) f = absurd f
+    reached_is scope t (global g steps) f = let is = global_width scope t g steps f in omega (arith, is)
 
     -- the words of a place are among those that it needs
     reached_need : (scope : List ℕ) (t : TypeTree) (q : Pl) → PlFits p scope t q → reached s q ≤ need p (read q)
@@ -172,9 +186,7 @@ module _ (p : Program) (form : IsInForm p) where
       -- the operands of a place, and some temps after them
       operands_fit : (h : ℕ) (scope : List ℕ) (t : TypeTree) (q : Pl) (behind others : ℕ) → Below s n scope → PlFits p scope t q → h + place_need p q behind ≤ temps → place_reach p q others ≤ outgoing → OperandsFit p s n h q
       operands_fit h scope t (local v steps) behind others b f l o = steps_fit h scope (site_type p v) t steps behind others b f.1 l o
-      operands_fit h scope t (global g here) behind others b f l o = tt
-      operands_fit h scope t (global g (inner i steps)) behind others b f l o = absurd f
-      operands_fit h scope t (global g (at_index at e m steps)) behind others b f l o = absurd f
+      operands_fit h scope t (global g steps) behind others b f l o = steps_fit h scope (global_type p g) t steps behind others b f.1 l o
 
       steps_fit : (h : ℕ) (scope : List ℕ) (u t : TypeTree) (steps : Steps) (behind others : ℕ) → Below s n scope → StepsLead p scope u steps t → h + steps_need p steps behind ≤ temps → steps_reach p steps others ≤ outgoing
           → StepsFitIn p s n h steps

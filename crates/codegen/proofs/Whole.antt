@@ -16,7 +16,9 @@ use Rattle.typed.specs.View.{func_of, program_of}
 use Rattle.typed_syntax.specs.Form.{IsInForm}
 use Rattle.frame_layout.specs.declared.layout.FrameLayout.{FrameLayout}
 use Rattle.frame_layout.specs.Layout.{layout_in, layouts}
-use Rattle.expression_code.specs.Frame.{func_in}
+use Rattle.typed_syntax.specs.Frames.{outgoing_of, temps_of}
+use Rattle.expression_code.specs.Frame.{func_in, globals_in, sites_in}
+use Rattle.expression_code.proofs.Variables.{globals_are}
 use Rattle.codegen.specs.Temps.{FuncFitsIn}
 use Rattle.program_code.specs.Code.{Slots, slots_of, params_code, zeros_code, sts_code, leave_code, entry_size, func_code, func_size, entry_of, funcs_code, funcs_owners, funcs_entries, code_of}
 use Rattle.program_code.proofs.Sizes.{length_entry, length_func}
@@ -39,6 +41,13 @@ func_emitted p f s old c1 c2 c3 c4 same e1 e2 e3 e4 =
     ∙ append_assoc (old ++ (params ++ zeros)) body leave
     ∙ append_assoc old (params ++ zeros) (body ++ leave) in
     all ∙ ap (λ (x : Slots). old ++ ((params_code x (each_width f.param_types) f.params 0 ++ zeros_code x f.named) ++ (sts_code p m f.named x f.body 0 0 0 here ++ leave_code x m f.named))) same
+
+-- the slots of a frame that is laid out for a function
+pub slots_are : (p : ProgramData) (f : FuncData) (layout : FrameLayout) (s : Slots) → layout ≡ layout_in (program_of p) (func_in p f)
+    → s ≡ record { outgoing = layout.outgoing; temps = layout.temps; first = f.first_site; sites = sites_in p; globals = globals_in p } → s ≡ slots_of (program_of p) (func_in p f)
+slots_are p f layout s laid is =
+    is ∙ ap (λ (l : FrameLayout). let r : Slots = record { outgoing = l.outgoing; temps = l.temps; first = f.first_site; sites = sites_in p; globals = globals_in p } in r) laid
+    ∙ ap (λ (gs : List ℕ). let r : Slots = record { outgoing = outgoing_of (program_of p) (func_in p f); temps = temps_of (program_of p) (func_in p f); first = f.first_site; sites = sites_in p; globals = gs } in r) (globals_are p)
 
 split : (types : List TypeTree) (gs : List FuncData) (i : ℕ) (g : FuncData) → i < length gs → g ≡ get_or gs i g → map (func_of types) (drop i gs) ≡ func_of types g ∷ map (func_of types) (drop (i + 1) gs)
 split types gs i g l is =

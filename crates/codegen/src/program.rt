@@ -3,14 +3,14 @@ ghost use Rattle.std.specs.Prelude.{◌≡◌, ◌+◌, ◌<◌, ◌^◌, ◌++�
 ghost use Rattle.typed.specs.View.{program_of};
 ghost use Rattle.typed_syntax.specs.Form.{IsInForm};
 ghost use Rattle.frame_layout.specs.Layout.{layout_in, layouts as layouts_of};
-ghost use Rattle.expression_code.specs.Frame.{func_in, slots_in, IsLaid};
+ghost use Rattle.expression_code.specs.Frame.{func_in, global_addresses as addresses_of, slots_in, IsLaid};
 ghost use Rattle.codegen.specs.Temps.{FuncFitsIn};
 ghost use Rattle.program_code.specs.Code.{code_of, entry_of, func_code, func_size, slots_of};
 
 use crate::emitting::emit_stmts;
 use crate::returning::{emit_leave, emit_params, emit_zeros};
 use base::NoMemory;
-use expression_code::{Frame, Goals, here};
+use expression_code::{Frame, Goals, global_addresses, here};
 use frame_layout::{FrameLayout, Layouts, all_words};
 use isa::{Code, Instr};
 use std::alloc::Global;
@@ -86,7 +86,7 @@ fn copied(alloc: Global, strings: &[Vec<u8>]) -> Result<Vec<Vec<u8>>, NoMemory>
     Ok(all)
 }
 
-// A function comes after the others, with this number.
+// A function comes after the others, with this number. The addresses of the package variables go through its frame.
 fn add(
     alloc: Global,
     parts: &mut Parts,
@@ -94,15 +94,18 @@ fn add(
     func: &Func,
     layout: FrameLayout,
     number: u16,
-) -> Result<(), NoMemory>
+    globals: Vec<u64>,
+) -> Result<Vec<u64>, NoMemory>
+    requires globals { globals.items ≡ addresses_of program.now }
     requires fits { FuncFitsIn (program_of program.now) (func_in program.now func.now) }
     requires layout { layout ≡ layout_in (program_of program.now) (func_in program.now func.now) }
     ensures instrs { OnOk result (parts.new.instrs.items ≡ parts.old.instrs.items ++ func_code (program_of program.now) (func_in program.now func.now) (length parts.old.instrs.items)) }
     ensures owners { OnOk result (parts.new.owners.items ≡ parts.old.owners.items ++ replicate (func_size (program_of program.now) (func_in program.now func.now)) number) }
     ensures funcs { OnOk result (parts.new.funcs.items ≡ parts.old.funcs.items ++ entry_of (program_of program.now) (func_in program.now func.now) (length parts.old.instrs.items) ∷ []) }
+    ensures globals { IfOk result (λ same. same.items ≡ addresses_of program.now) }
 {
     let start = here(&parts.instrs)?;
-    let frame = Frame::new(alloc, program, func, layout)?;
+    let frame = Frame::new(alloc, program, func, layout, globals)?;
     emit_func(&mut parts.instrs, program, &frame, func)?;
     let places = parts.instrs.len() - start as usize;
     own(&mut parts.owners, number, places)?;
@@ -115,7 +118,7 @@ fn add(
         start,
     };
     put_entry(&mut parts.funcs, entry)?;
-    Ok(())
+    Ok(frame.into_globals())
 }
 
 /// The code of a program whose frames are laid out so. Memory counts as refused, too, where the code would have more than
@@ -134,10 +137,11 @@ pub fn emit(alloc: Global, program: &Program, layouts: &Layouts) -> Result<Code,
         owners: Vec::new(alloc),
         funcs: Vec::new(alloc),
     };
+    let mut globals = global_addresses(alloc, program)?;
     let mut number: u16 = 0;
     for func in funcs {
         let layout = frames[number as usize];
-        add(alloc, &mut parts, program, func, layout, number)?;
+        globals = add(alloc, &mut parts, program, func, layout, number, globals)?;
         number += 1;
     }
     here(&parts.instrs)?;

@@ -1,4 +1,5 @@
 pub mod InSlots
+pub mod Variables
 pub mod Operators
 pub mod ByWidth
 pub mod Expressions

@@ -2,7 +2,7 @@
 use Rattle.std.proofs.Common.{◌≡◌, ◌≢◌, ℕ, suc, ◌+◌, ◌<◌, ◌≤◌, List, [], ◌∷◌, ◌++◌, length, get_or, drop, refl, sym, ap, ◌∙◌, subst, arith, length-append, append_assoc}
 use Rattle.std.proofs.Math.Seq.{drop-cons}
 use Rattle.isa.specs.declared.instr.Instr.{Instr}
-use Rattle.isa.specs.declared.instr.Instr.TheVariants.{Address, Index}
+use Rattle.isa.specs.declared.instr.Instr.TheVariants.{Address, Const, Index}
 use Rattle.base.specs.declared.pos.Pos.{Pos}
 use Rattle.typed.specs.declared.expr.Expr.{Expr}
 use Rattle.typed.specs.declared.expr.Place.{Place}
@@ -16,7 +16,7 @@ use Rattle.typed_syntax.specs.Frames.{steps_far}
 use Rattle.typed.specs.View.{ex_of, place_of, steps_of}
 use Rattle.expression_code.specs.Parts.{part_number}
 use Rattle.expression_code.specs.Temps.{IndicesFit, OperandsFit, StepsFitIn, steps_in}
-use Rattle.program_code.specs.Code.{Slots, temp, far_offset, index_code, index_count, steps_above, steps_address, steps_address_size, steps_code, steps_size, ex_code, place_above, place_code, place_size, size}
+use Rattle.program_code.specs.Code.{Slots, temp, address_code, global_address, global_type, far_offset, index_code, index_count, steps_above, steps_address, steps_address_size, steps_code, steps_size, ex_code, place_above, place_code, place_size, size}
 use Rattle.program_code.proofs.Sizes.{length_code, place_sum}
 
 -- one, and those after it
@@ -154,6 +154,15 @@ pub address_some : (steps : Steps) → index_count steps ≢ 0 → steps_address
 address_some here e = absurd (e refl)
 address_some (inner i steps) e = address_some steps e
 address_some (at_index at x n steps) e = omega arith
+
+-- the address of a package variable, and then one for each index
+pub global_emitted : (s : Slots) (g : ℕ) (steps these : Steps) (t : TypeTree) (code more : List Instr) (first at a word : ℕ) → a ≡ temp s at → word ≡ global_address s g → t ≡ global_type s g → these ≡ steps → more ≡ code ++ Const a word ∷ []
+    → more ++ index_code s t these first at ≡ code ++ address_code s (global g steps) first at
+global_emitted s g steps these t code more first at a word ea ew et es e =
+    let rest = index_code s t these first at in
+    ap (λ l. l ++ rest) e ∙ append_assoc code (Const a word ∷ []) rest ∙ ap (λ k. code ++ Const k word ∷ rest) ea ∙ ap (λ k. code ++ Const (temp s at) k ∷ rest) ew
+    ∙ ap (λ (u : TypeTree). code ++ Const (temp s at) (global_address s g) ∷ index_code s u these first at) et
+    ∙ ap (λ (y : Steps). code ++ Const (temp s at) (global_address s g) ∷ index_code s (global_type s g) y first at) es
 
 -- operands only go up
 pub above_least : (h : ℕ) (steps : Steps) → h ≤ steps_above steps h

@@ -1,26 +1,48 @@
 -- A frame as data.
-use Rattle.std.specs.Prelude.{◌≡◌, ◌+◌, ◌≤◌, List}
-use Rattle.typed_syntax.specs.Types.{TypeTree}
+use Rattle.std.specs.Prelude.{◌≡◌, ℕ, ◌+◌, ◌≤◌, List, [], ◌∷◌, map, get_or}
+use Rattle.heap_bump.specs.Words.{first_address}
+use Rattle.typed_syntax.specs.Types.{TypeTree, ints, width}
 use Rattle.typed_syntax.specs.Syntax.{Func}
 use Rattle.typed_syntax.specs.Frames.{words_between}
 use Rattle.typed.specs.Trees.{trees}
-use Rattle.typed.specs.View.{func_of, site_types}
+use Rattle.typed.specs.View.{func_of, program_of, site_types}
 use Rattle.typed.specs.declared.program.Func.{Func as FuncData}
 use Rattle.typed.specs.declared.program.Program.{Program}
 use Rattle.frame_layout.specs.Layout.{starts}
 use Rattle.program_code.specs.Code.{Slots}
 use Rattle.expression_code.specs.declared.slots.Frame.{Frame}
 
--- the types of the sites, and a function
+-- the types of the sites, the sites of the package variables, and a function
 abbrev pub sites_in : Program → List TypeTree
 sites_in p = site_types (trees p.types) p.sites.items
+
+unfoldable pub globals_in : Program → List ℕ
+globals_in p = map (λ g. g.0) (program_of p).globals
 
 abbrev pub func_in : Program → FuncData → Func
 func_in p f = func_of (trees p.types) f
 
 abbrev pub slots_in : Program → Frame → Slots
-slots_in p f = record { outgoing = f.outgoing; temps = f.temps; first = f.first; sites = sites_in p }
+slots_in p f = record { outgoing = f.outgoing; temps = f.temps; first = f.first; sites = sites_in p; globals = globals_in p }
 
--- its slots are numbers of 16 bits, and it knows where each of its sites starts
+-- how many words the variables of each site have is told by 16 bits
+abbrev pub AreSmall : List TypeTree → Type 0
+AreSmall sites = (site : ℕ) → width (get_or sites site ints) ≤ 65535
+
+-- the address of each of some variables, by their sites, that stand one after the other from an address on
+abbrev pub addresses : List TypeTree → List ℕ → (at : ℕ) → List ℕ
+addresses sites [] at = []
+addresses sites (x ∷ xs) at = at ∷ addresses sites xs (at + width (get_or sites x ints))
+
+abbrev pub global_addresses : Program → List ℕ
+global_addresses p = addresses (sites_in p) (globals_in p) first_address
+
+-- what a frame knows beside its slots: where each of its sites starts, and the address of each package variable; the program's types are small
+pub record KnowsPlaces (p : Program) (f : Frame) : Type 0 where
+  pub words : AreSmall (sites_in p)
+  pub sites : f.starts.items ≡ starts (sites_in p) f.first 0 f.sites
+  pub globals : f.globals.items ≡ global_addresses p
+
+-- its slots are numbers of 16 bits, and it knows the places of variables
 abbrev pub IsLaid : Program → Frame → Type 0
-IsLaid p f = (f.outgoing + f.temps + words_between (sites_in p) f.first f.sites ≤ 65535) × (f.starts.items ≡ starts (sites_in p) f.first 0 f.sites)
+IsLaid p f = (f.outgoing + f.temps + words_between (sites_in p) f.first f.sites ≤ 65535) × KnowsPlaces p f

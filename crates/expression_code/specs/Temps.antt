@@ -4,7 +4,7 @@ use Rattle.typed_syntax.specs.Types.{TypeTree, width, part_type, part_offset}
 use Rattle.typed_syntax.specs.Paths.{offset}
 use Rattle.typed_syntax.specs.Syntax.{Ex, Exs, Pl, Steps, here, inner, at_index, Program, constant, read, unary, binary, logical_and, logical_or, call, part_of, literal, Elements, no_elements, element, local, global, none, more, results, read_int, arguments_of, results_of, type_named, path_of, wide, ascend, words_through, gap_behind}
 use Rattle.typed_syntax.specs.Frames.{far}
-use Rattle.program_code.specs.Code.{Slots, site_type, site_words, part_words, place_above}
+use Rattle.program_code.specs.Code.{Slots, site_type, site_words, part_words, place_above, global_type, global_offset, global_words}
 
 -- the site is among the n of a frame
 abbrev pub SiteFits : Slots → (n site : ℕ) → Type 0
@@ -25,12 +25,13 @@ IndicesFit t (at_index p e m steps) = (0 < m) × (m ≤ width t) × (0 < width (
 abbrev pub PlaceFits : Slots → (n : ℕ) → Pl → Type 0
 PlaceFits s n (local site steps) =
     SiteFits s n site × (0 < part_words s site (path_of steps)) × (offset (site_type s site) (path_of steps) + part_words s site (path_of steps) ≤ site_words s site) × IndicesFit (site_type s site) steps
-PlaceFits s n (global g steps) = Unit {0}
+PlaceFits s n (global g steps) =
+    (g < length s.globals) × (0 < global_words s g steps) × (global_offset s g steps + global_words s g steps ≤ width (global_type s g)) × IndicesFit (global_type s g) steps
 
--- the words of a place; a package variable has one
+-- the words of a place
 abbrev pub reached : Slots → Pl → ℕ
 reached s (local site steps) = part_words s site (path_of steps)
-reached s (global g steps) = 1
+reached s (global g steps) = global_words s g steps
 
 -- there is a temp for the address of a place, if it has one
 abbrev pub AddressFits : (temps at : ℕ) → Pl → Type 0

@@ -1,17 +1,18 @@
 //! Where the parts of variables stand.
-ghost use Rattle.std.specs.Prelude.{◌≡◌, ◌≤◌, if◌then◌else◌};
-ghost use Rattle.typed_syntax.specs.Types.{width};
+ghost use Rattle.std.specs.Prelude.{◌≡◌, ◌≤◌, get_or, if◌then◌else◌};
+ghost use Rattle.typed_syntax.specs.Types.{ints, width};
 ghost use Rattle.typed_syntax.specs.Paths.{offset as offset_at, type_at};
 ghost use Rattle.typed_syntax.specs.Syntax.{local, path_of, site_type as type_of_site, type_named};
 ghost use Rattle.typed_syntax.specs.Frames.{steps_far};
 ghost use Rattle.typed.specs.View.{place_of, program_of, steps_of as these_steps};
-ghost use Rattle.expression_code.specs.Frame.{slots_in, IsLaid};
+ghost use Rattle.expression_code.specs.Frame.{globals_in, sites_in, slots_in, IsLaid};
 ghost use Rattle.expression_code.specs.Parts.{part_number as number_of};
 ghost use Rattle.expression_code.specs.Temps.{steps_in, PlaceFits};
 ghost use Rattle.program_code.specs.Code.{far_offset as offset_behind, part_slot as slot_of_part, part_words as words_of_part, site_type as type_in_slots, steps_above};
 
 use crate::slots::Frame;
 use base::{SiteId, TypeId};
+use frame_layout::site_of_global;
 use typed::{Place, Program, Step};
 
 /// The steps of a place.
@@ -71,6 +72,13 @@ pub fn site_type(program: &Program, site: SiteId) -> TypeId
     }
 }
 
+/// The type of a package variable.
+pub fn global_type(program: &Program, number: u32) -> TypeId
+    ensures { type_named (program_of program.now) result.0 ≡ get_or (sites_in program.now) (get_or (globals_in program.now) number 0) ints }
+{
+    site_type(program, site_of_global(program, number))
+}
+
 /// The type of the part that steps lead to from values of a type.
 fn end_type(program: &Program, id: TypeId, steps: &[Step]) -> TypeId
     ensures { type_named (program_of program.now) result.0 ≡ type_at (type_named (program_of program.now) id.0) (path_of (these_steps steps.now)) }
@@ -82,8 +90,16 @@ fn end_type(program: &Program, id: TypeId, steps: &[Step]) -> TypeId
     part
 }
 
+/// The words of that part.
+pub fn end_words(program: &Program, id: TypeId, steps: &[Step]) -> u16
+    requires { width (type_at (type_named (program_of program.now) id.0) (path_of (these_steps steps.now))) ≤ 65535 }
+    ensures { result ≡ width (type_at (type_named (program_of program.now) id.0) (path_of (these_steps steps.now))) }
+{
+    program.types.width(end_type(program, id, steps)) as u16
+}
+
 /// The words before that part, but for those before elements by indices that are worked out.
-fn near_offset(program: &Program, id: TypeId, steps: &[Step]) -> u16
+pub fn near_offset(program: &Program, id: TypeId, steps: &[Step]) -> u16
     requires { offset_at (type_named (program_of program.now) id.0) (path_of (these_steps steps.now)) ≤ 65535 }
     ensures { result ≡ offset_at (type_named (program_of program.now) id.0) (path_of (these_steps steps.now)) }
 {
@@ -117,8 +133,7 @@ pub fn part_words(program: &Program, frame: &Frame, site: SiteId, steps: &[Step]
     requires frame { IsLaid program.now frame.now }
     ensures { result ≡ words_of_part (slots_in program.now frame.now) site.0 (path_of (these_steps steps.now)) }
 {
-    let id = site_type(program, site);
-    program.types.width(end_type(program, id, steps)) as u16
+    end_words(program, site_type(program, site), steps)
 }
 
 /// The first slot of a part that is reached by no address.

@@ -1,24 +1,25 @@
 //! The code that reaches places: local variables in their slots, package variables and parts by indices that are worked out by their
-//! addresses.
+//! addresses. The address of a part of a local variable by an index begins at the whole that has the index, that of a package variable
+//! at the variable; from there on both count their indices in the same way.
 ghost use Rattle.std.specs.Prelude.{◌≡◌, ◌+◌, ◌<◌, ◌≤◌, ◌++◌, ◌∷◌, [], IfOk, OnOk, if◌then◌else◌};
 ghost use Rattle.typed_syntax.specs.Types.{width};
 ghost use Rattle.typed_syntax.specs.Paths.{offset};
-ghost use Rattle.typed_syntax.specs.Syntax.{local, path_of, type_named};
+ghost use Rattle.typed_syntax.specs.Syntax.{global, local, path_of, type_named};
 ghost use Rattle.typed.specs.View.{place_of, program_of, steps_of as these_steps};
 ghost use Rattle.typed_syntax.specs.Frames.{far, steps_far};
 ghost use Rattle.expression_code.specs.Frame.{slots_in, IsLaid};
 ghost use Rattle.expression_code.specs.Temps.{AddressFits, IndicesFit, PlaceFits, reached};
-ghost use Rattle.program_code.specs.Code.{above_address as above_address_of, address_code, address_size, fetch_code, fetch_part as part_fetched, index_code, index_count as count_of, land_code, land_part as part_landed, place_above as above_operands, read_code, steps_above, steps_address, write_code, global_address as address_of_global};
+ghost use Rattle.program_code.specs.Code.{above_address as above_address_of, address_code, address_size, fetch_code, fetch_part as part_fetched, index_code, index_count as count_of, land_code, land_part as part_landed, place_above as above_operands, read_code, steps_above, steps_address, write_code};
 
 use crate::jumps::put;
 use crate::lengths::plus;
 use crate::moving::moves;
 use crate::parts::{
-    above_steps, behind_address, is_far, part_number, part_slot, part_words, site_type, steps_of,
+    above_steps, behind_address, end_words, global_type, is_far, near_offset, part_number,
+    part_slot, part_words, site_type, steps_of,
 };
 use crate::slots::Frame;
 use base::{NoMemory, SiteId, TypeId};
-use heap_bump::HEAP_LOW;
 use isa::Instr;
 use typed::{Place, Program, Step};
 
@@ -45,7 +46,7 @@ pub fn address_len(place: &Place) -> Result<u32, NoMemory>
             let count = index_count(steps)?;
             if count == 0 { Ok(0) } else { plus(count, 1) }
         }
-        Place::Global(_, _) => Ok(1),
+        Place::Global(_, steps) => plus(1, index_count(steps)?),
     }
 }
 
@@ -75,13 +76,6 @@ pub fn above_address(place: &Place, at: u16) -> u16
     ensures { result ≡ above_address_of (far (place_of place.now)) at }
 {
     if has_address(place) { at + 1 } else { at }
-}
-
-// The address of a package variable.
-fn global_address(number: u32) -> u64
-    ensures { result ≡ address_of_global number }
-{
-    HEAP_LOW + u64::from(number)
 }
 
 // The address of a value of a type, in temp `at`, becomes that of an element, for each index among the steps; these are in temps from
@@ -179,9 +173,11 @@ pub fn emit_address(
             let (whole, id) = (frame.of_site(program, *site), site_type(program, *site));
             emit_part_address(code, program, frame, whole, id, steps, first, at)
         }
-        Place::Global(number, _) => {
-            let (a, word) = (frame.temp(at), global_address(*number));
-            put(code, Instr::Const { a, word })
+        Place::Global(number, steps) => {
+            let (a, word) = (frame.temp(at), frame.of_global(program, *number));
+            put(code, Instr::Const { a, word })?;
+            let id = global_type(program, *number);
+            emit_indices(code, program, frame, id, steps, first, at)
         }
     }
 }
@@ -234,6 +230,54 @@ fn land_part(
     moves(n, part_slot(program, frame, site, steps), c)
 }
 
+// The words of a part of a package variable go to temps from h on; the address of the whole, which counts the indices, is in temp `at`.
+fn fetch_global(
+    program: &Program,
+    frame: &Frame,
+    number: u32,
+    steps: &[Step],
+    at: u16,
+    h: u16,
+) -> Instr
+    requires temp { h ≤ frame.now.temps }
+    requires address { at ≤ frame.now.temps }
+    requires place { PlaceFits (slots_in program.now frame.now) frame.now.sites (global number (these_steps steps.now)) }
+    requires frame { IsLaid program.now frame.now }
+    ensures { result ≡ fetch_code (slots_in program.now frame.now) (global number (these_steps steps.now)) at h }
+{
+    let id = global_type(program, number);
+    let (off, n) = (
+        near_offset(program, id, steps),
+        end_words(program, id, steps),
+    );
+    let (a, b) = (frame.temp(h), frame.temp(at));
+    Instr::Load { a, b, off, n }
+}
+
+// A part of a package variable gets the words of temps from h on.
+fn land_global(
+    program: &Program,
+    frame: &Frame,
+    number: u32,
+    steps: &[Step],
+    at: u16,
+    h: u16,
+) -> Instr
+    requires temp { h ≤ frame.now.temps }
+    requires address { at ≤ frame.now.temps }
+    requires place { PlaceFits (slots_in program.now frame.now) frame.now.sites (global number (these_steps steps.now)) }
+    requires frame { IsLaid program.now frame.now }
+    ensures { result ≡ land_code (slots_in program.now frame.now) (global number (these_steps steps.now)) at h }
+{
+    let id = global_type(program, number);
+    let (off, n) = (
+        near_offset(program, id, steps),
+        end_words(program, id, steps),
+    );
+    let (a, c) = (frame.temp(at), frame.temp(h));
+    Instr::Store { a, off, c, n }
+}
+
 /// The words of a place go to temps from h on; its address, if there is one, is in temp `at`.
 #[tactic(auto, using(typed::proofs::Rows::expr_rows))]
 pub fn emit_fetch(
@@ -252,9 +296,8 @@ pub fn emit_fetch(
 {
     match place {
         Place::Local(site, steps) => put(code, fetch_part(program, frame, *site, steps, at, h)),
-        Place::Global(_, _) => {
-            let (a, b) = (frame.temp(h), frame.temp(at));
-            put(code, Instr::Load { a, b, off: 0, n: 1 })
+        Place::Global(number, steps) => {
+            put(code, fetch_global(program, frame, *number, steps, at, h))
         }
     }
 }
@@ -277,9 +320,8 @@ pub fn emit_land(
 {
     match place {
         Place::Local(site, steps) => put(code, land_part(program, frame, *site, steps, at, h)),
-        Place::Global(_, _) => {
-            let (a, c) = (frame.temp(at), frame.temp(h));
-            put(code, Instr::Store { a, off: 0, c, n: 1 })
+        Place::Global(number, steps) => {
+            put(code, land_global(program, frame, *number, steps, at, h))
         }
     }
 }

@@ -1,17 +1,20 @@
-//! The slots of a frame.
-ghost use Rattle.std.specs.Prelude.{◌≡◌, ◌+◌, ◌≤◌, IfOk};
+//! The slots of a frame, and the addresses of the package variables.
+ghost use Rattle.std.specs.Prelude.{◌≡◌, ◌+◌, ◌<◌, ◌≤◌, IfOk, length};
 ghost use Rattle.typed_syntax.specs.Frames.{words_between};
-ghost use Rattle.program_code.specs.Code.{site_slot, site_words as words_of_site};
+ghost use Rattle.program_code.specs.Code.{global_address, site_slot, site_words as words_of_site};
 ghost use Rattle.expression_code.specs.Temps.{SiteFits};
-ghost use Rattle.expression_code.specs.Frame.{sites_in, slots_in, IsLaid};
+ghost use Rattle.expression_code.specs.Frame.{AreSmall, IsLaid, global_addresses as addresses_of, globals_in, sites_in, slots_in};
 
 use base::{NoMemory, SiteId};
 use frame_layout::{FrameLayout, site_starts, site_words};
+use heap_bump::HEAP_LOW;
 use std::alloc::Global;
-use typed::{Func, Program};
+use typed::{Func, INT, Program};
 
 /// A frame from its lowest slot up: the words of the outgoing area, the temps, and the words of the sites from a
 /// first one on. `starts` are the words before each of these, so that a slot is told without a walk over the sites.
+/// `globals` are the addresses of the package variables: they are worked out once for a program, and go from the frame
+/// of one function to that of the next.
 #[derive(Drop)]
 pub struct Frame {
     pub outgoing: u16,
@@ -19,6 +22,31 @@ pub struct Frame {
     pub first: u32,
     pub sites: u32,
     pub starts: Vec<u16>,
+    pub globals: Vec<u64>,
+}
+
+/// The address of each package variable. They stand one after the other in the heap; an address past 64 bits counts as
+/// want of memory.
+pub fn global_addresses(alloc: Global, program: &Program) -> Result<Vec<u64>, NoMemory>
+    ensures { IfOk result (λ all. all.items ≡ addresses_of program.now) }
+{
+    let globals = program.globals.as_slice();
+    let mut all = Vec::new(alloc);
+    let mut next = HEAP_LOW;
+    for global in globals {
+        all.push(next)?;
+        next = next
+            .checked_add(site_words(program, global.site))
+            .ok_or(NoMemory)?;
+    }
+    Ok(all)
+}
+
+// A table of types has none with more words than 16 bits tell: any of its answers says that it is well formed.
+fn tell_words(program: &Program)
+    ensures { AreSmall (sites_in program.now) }
+{
+    let _ = program.types.type_at(INT);
 }
 
 impl Frame {
@@ -28,22 +56,33 @@ impl Frame {
         program: &Program,
         func: &Func,
         layout: FrameLayout,
+        globals: Vec<u64>,
     ) -> Result<Frame, NoMemory>
-        requires { layout.outgoing + layout.temps + words_between (sites_in program.now) func.now.first_site func.now.sites ≤ 65535 }
+        requires globals { globals.items ≡ addresses_of program.now }
+        requires words { layout.outgoing + layout.temps + words_between (sites_in program.now) func.now.first_site func.now.sites ≤ 65535 }
         ensures laid { IfOk result (λ f. IsLaid program.now f) }
         ensures slots { IfOk result (λ f. slots_in program.now f
-            ≡ record { outgoing = layout.outgoing; temps = layout.temps; first = func.now.first_site; sites = sites_in program.now }) }
+            ≡ record { outgoing = layout.outgoing; temps = layout.temps; first = func.now.first_site; sites = sites_in program.now; globals = globals_in program.now }) }
         ensures sites { IfOk result (λ f. f.sites ≡ func.now.sites) }
     {
         let (first, sites) = (func.first_site, func.sites);
         let starts = site_starts(alloc, program, first, sites)?;
+        tell_words(program);
         Ok(Frame {
             outgoing: layout.outgoing,
             temps: layout.temps,
             first,
             sites,
             starts,
+            globals,
         })
+    }
+
+    /// Lets go of a frame, but for the addresses of the package variables.
+    pub fn into_globals(self) -> Vec<u64>
+        ensures { result.items ≡ self.globals.items }
+    {
+        self.globals
     }
 
     /// The slot of a temp.
@@ -71,5 +110,14 @@ impl Frame {
         ensures { result ≡ words_of_site (slots_in program.now self.now) site.0 }
     {
         site_words(program, site) as u16
+    }
+
+    /// The address of a package variable.
+    pub fn of_global(&self, program: &Program, number: u32) -> u64
+        requires global { number < length (globals_in program.now) }
+        requires frame { IsLaid program.now self.now }
+        ensures { result ≡ global_address (slots_in program.now self.now) number }
+    {
+        self.globals[number as usize]
     }
 }

@@ -98,7 +98,7 @@ pub fn element_words(program: &Program, site: SiteId) -> u64
 }
 
 /// The site of a package variable by its number.
-fn site_of_global(program: &Program, number: u32) -> SiteId
+pub fn site_of_global(program: &Program, number: u32) -> SiteId
     ensures { result.0 ≡ global_site (program_of program.now) number }
 {
     match program.globals.get(number as usize) {

@@ -7,7 +7,7 @@ use Rattle.isa.specs.declared.instr.BinOp.TheVariants as Word
 use Rattle.typed_syntax.specs.Frames.{far}
 use Rattle.typed_syntax.specs.Syntax.{Ex, Exs, Pl, Steps, here as itself, inner, at_index, Left, Piece, St, Sts, Func, Program, constant, read, unary, binary, logical_and, logical_or, call, part_of, literal, Elements, no_elements, element, local, global, none, more, results, read_int, blank, new, to, text, shown, over_int, over_length, over_copy, declare, assign, update, bump, discard, block, if_stmt, for_stmt, range, break_stmt, continue_stmt, return_stmt, print, panic, exit, done, next, argument_words, arguments_of, results_of, type_named, wide, all_wide, each_width, value_widths, ascend, words_through, gap_behind}
 use Rattle.typed_syntax.specs.Types.{TypeTree, width, part_type, part_offset}
-use Rattle.program_code.specs.Code.{element_code, index_round_code, index_round_size, element_round_code, element_round_size, array_code, Slots, site_slot, site_type, site_words, steps_above, place_above, above_address, lefts_above, index_code, index_count, steps_address, steps_address_size, address_size, place_code, place_size, place_end, steps_code, steps_size, steps_end, ready_code, lefts_sized, lefts_end, first_width, other_widths, temp, operation, binary_code, unary_code, address_code, fetch_code, land_code, read_code, write_code, move_code, move_size, result_code, gap_code, gap_size, moves, elements_code, elements_size, call_code, call_size, ex_code, exs_code, pieces_code, test_code, test_size, size, exs_size, pieces_size, raised_code, show_more, show_plain, show_code, more_size, shown_size, lefts_code, lefts_size, named_write_code, named_read_code, named_read_size, leave_code, leave_size, values_code, values_size, params_code, params_size, zeros_code, renew_code, renew_size, st_code, sts_code, st_size, sts_size, slots_of, entry_code, entry_size, func_code, func_size}
+use Rattle.program_code.specs.Code.{element_code, index_round_code, index_round_size, element_round_code, element_round_size, array_code, Slots, site_slot, site_type, global_type, site_words, place_above, above_address, lefts_above, index_code, index_count, steps_address, steps_address_size, address_size, place_code, place_size, place_end, steps_code, steps_size, steps_end, ready_code, lefts_sized, lefts_end, first_width, other_widths, temp, operation, binary_code, unary_code, address_code, fetch_code, land_code, read_code, write_code, move_code, move_size, result_code, gap_code, gap_size, moves, elements_code, elements_size, call_code, call_size, ex_code, exs_code, pieces_code, test_code, test_size, size, exs_size, pieces_size, raised_code, show_more, show_plain, show_code, more_size, shown_size, lefts_code, lefts_size, named_write_code, named_read_code, named_read_size, leave_code, leave_size, values_code, values_size, params_code, params_size, zeros_code, renew_code, renew_size, st_code, sts_code, st_size, sts_size, slots_of, entry_code, entry_size, func_code, func_size}
 
 pub length_move : (n a b : ℕ) → length (move_code n a b) ≡ move_size n
 length_move zero a b = refl
@@ -33,7 +33,7 @@ length_steps_address s slot t (at_index p e n steps) first at = ap (λ l. suc (s
 
 pub length_address : (s : Slots) (p : Pl) (first at : ℕ) → length (address_code s p first at) ≡ address_size p
 length_address s (local site steps) first at = length_steps_address s (site_slot s site) (site_type s site) steps first at
-length_address s (global g steps) first at = refl
+length_address s (global g steps) first at = ap suc (length_index s (global_type s g) steps first at)
 
 pub length_read : (s : Slots) (p : Pl) (at h : ℕ) → length (read_code s p at h) ≡ address_size p + 1
 length_read s p at h = let one : length (fetch_code s p at h ∷ []) ≡ 1 = refl in omega (arith, one, length-append (address_code s p h at) (fetch_code s p at h ∷ []), length_address s p h at)

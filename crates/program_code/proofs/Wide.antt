@@ -4,12 +4,12 @@ use Rattle.typed_syntax.specs.declared.operators.BinOp.{BinOp}
 use Rattle.typed_syntax.specs.declared.operators.BinOp.TheVariants.{Add, Sub, Mul, Div, Rem, And, Or, Xor, AndNot, ShiftLeft, ShiftRight, Equal, NotEqual, Less, LessEqual, Greater, GreaterEqual}
 use Rattle.typed_syntax.specs.declared.operators.UnOp.{UnOp}
 use Rattle.typed_syntax.specs.declared.operators.UnOp.TheVariants.{Plus, Negate, Complement, Not}
-use Rattle.typed_syntax.specs.Types.{TypeTree, width, array_of, part_type}
+use Rattle.typed_syntax.specs.Types.{TypeTree, width, part_type}
 use Rattle.typed_syntax.specs.Value.{Value, int, bool, composite, IsOf}
 use Rattle.typed_syntax.specs.Paths.{type_at}
 use Rattle.typed_syntax.specs.Words.{contents}
 use Rattle.value_laws.proofs.Parts.{count_of, element}
-use Rattle.typed_syntax.specs.Syntax.{Ex, Exs, Pl, Steps, Program, constant, read, unary, binary, logical_and, logical_or, call, part_of, literal, local, global, here, inner, at_index, none, more, results, read_int, results_in, result_widths, each_width, all_width, site_type, path_of, place_type, wide, all_wide, value_widths}
+use Rattle.typed_syntax.specs.Syntax.{Ex, Exs, Pl, Steps, Program, constant, read, unary, binary, logical_and, logical_or, call, part_of, literal, local, global, here, inner, at_index, none, more, results, read_int, results_in, result_widths, each_width, all_width, site_type, global_type, path_of, place_type, wide, all_wide, value_widths}
 use Rattle.typed_syntax.specs.Form.{IsPlain, Takes, TakesOne, PlFits, StepsLead, ExFits, ExsFit}
 
 pub plain_one : (t : TypeTree) → IsPlain t → width t ≡ 1
@@ -78,9 +78,7 @@ module _ (p : Program) where
 
   pub place_is_of : (scope : List ℕ) (t : TypeTree) (q : Pl) → PlFits p scope t q → place_type p q ≡ t
   place_is_of scope t (local site steps) fit = steps_are scope (site_type p site) t steps fit.1
-  place_is_of scope t (global g here) fit = fit.1
-  place_is_of scope t (global g (inner i steps)) fit = absurd fit
-  place_is_of scope t (global g (at_index at e n steps)) fit = absurd fit
+  place_is_of scope t (global g steps) fit = steps_are scope (global_type p g) t steps fit.1
 
   one_of : (ts : List TypeTree) (t : TypeTree) → ts ≡ t ∷ [] → all_width ts ≡ width t
   one_of ts t e = let q = ap all_width e in omega (arith, q)

@@ -1,5 +1,5 @@
 -- The code of a program: a table of each function's instructions, one function after the other.
-use Rattle.std.specs.Prelude.{ℕ, zero, suc, ◌+◌, ◌-◌, Bool, true, false, List, [], ◌∷◌, ◌++◌, Option, Some, None, length, replicate, get_or}
+use Rattle.std.specs.Prelude.{ℕ, zero, suc, ◌+◌, ◌-◌, Bool, true, false, List, [], ◌∷◌, ◌++◌, Option, Some, None, length, map, replicate, get_or}
 use Rattle.std.specs.Int.{w64, cast_unsigned}
 use Rattle.isa.specs.Bin.{bit_of}
 use Rattle.isa.specs.Code.{Tables}
@@ -67,12 +67,13 @@ word_of (bool b) = bit_of b
 word_of (composite vs) = 0
 
 -- The slots of a frame, from its lowest word: the outgoing area, the temps, the sites from this one on, each with the words of
--- its type; above them the link and the return place.
+-- its type; above them the link and the return place. The package variables, by their sites, stand in the heap.
 pub record Slots : Type 0 where
   pub outgoing : ℕ
   pub temps : ℕ
   pub first : ℕ
   pub sites : List TypeTree
+  pub globals : List ℕ
 
 abbrev pub temp : Slots → ℕ → ℕ
 temp s h = s.outgoing + h
@@ -111,9 +112,19 @@ abbrev pub gap_size : ℕ → ℕ
 gap_size zero = 0
 gap_size (suc n) = 1
 
+-- the type of a package variable
+abbrev pub global_type : Slots → ℕ → TypeTree
+global_type s g = site_type s (get_or s.globals g 0)
+
+-- the words of the first variables of some sites together
+abbrev pub globals_before : List TypeTree → List ℕ → ℕ → ℕ
+globals_before sites [] g = 0
+globals_before sites (x ∷ xs) zero = 0
+globals_before sites (x ∷ xs) (suc g) = width (get_or sites x ints) + globals_before sites xs g
+
 -- package variables stand one after the other from the heap's first word on
-abbrev pub global_address : ℕ → ℕ
-global_address g = first_address + g
+abbrev pub global_address : Slots → ℕ → ℕ
+global_address s g = first_address + globals_before s.sites s.globals g
 
 -- the first temp above the operands of a place, which are in temps from h on, and that above an address, if there is one
 abbrev pub steps_above : Steps → (h : ℕ) → ℕ
@@ -162,11 +173,11 @@ steps_address_size (at_index p e n steps) = suc (suc (index_count steps))
 -- the address of a place, where it is reached by one, goes to temp `at`; its operands are in temps from `first` on
 abbrev pub address_code : Slots → Pl → (first at : ℕ) → List Instr
 address_code s (local site steps) first at = steps_address s (site_slot s site) (site_type s site) steps first at
-address_code s (global g steps) first at = Const (temp s at) (global_address g) ∷ []
+address_code s (global g steps) first at = Const (temp s at) (global_address s g) ∷ index_code s (global_type s g) steps first at
 
 abbrev pub address_size : Pl → ℕ
 address_size (local site steps) = steps_address_size steps
-address_size (global g steps) = 1
+address_size (global g steps) = suc (index_count steps)
 
 -- the words before a part that are not in its address: those from the first index on that lie before fields and elements by
 -- their numbers
@@ -175,6 +186,13 @@ far_offset t here = 0
 far_offset t (inner i steps) = far_offset (part_type t i) steps
 far_offset t (at_index p e n steps) = offset (part_type t 0) (path_of steps)
 
+-- of a part of a package variable, whose address begins at the whole: the words before it that its indices don't count, and its own
+abbrev pub global_offset : Slots → (g : ℕ) → Steps → ℕ
+global_offset s g steps = offset (global_type s g) (path_of steps)
+
+abbrev pub global_words : Slots → (g : ℕ) → Steps → ℕ
+global_words s g steps = width (type_at (global_type s g) (path_of steps))
+
 -- the words of a place go to temps from h on; its address, if there is one, is in temp `at`
 abbrev pub fetch_part : Slots → (site : ℕ) → Steps → (far at h : ℕ) → Instr
 fetch_part s site steps zero at h = moves (part_words s site (path_of steps)) (temp s h) (part_slot s site (path_of steps))
@@ -182,7 +200,7 @@ fetch_part s site steps (suc n) at h = Load (temp s h) (temp s at) (far_offset (
 
 abbrev pub fetch_code : Slots → Pl → (at h : ℕ) → Instr
 fetch_code s (local site steps) at h = fetch_part s site steps (steps_far steps) at h
-fetch_code s (global g steps) at h = Load (temp s h) (temp s at) 0 1
+fetch_code s (global g steps) at h = Load (temp s h) (temp s at) (global_offset s g steps) (global_words s g steps)
 
 -- a place gets the words of temps from h on
 abbrev pub land_part : Slots → (site : ℕ) → Steps → (far at h : ℕ) → Instr
@@ -191,7 +209,7 @@ land_part s site steps (suc n) at h = Store (temp s at) (far_offset (site_type s
 
 abbrev pub land_code : Slots → Pl → (at h : ℕ) → Instr
 land_code s (local site steps) at h = land_part s site steps (steps_far steps) at h
-land_code s (global g steps) at h = Store (temp s at) 0 (temp s h) 1
+land_code s (global g steps) at h = Store (temp s at) (global_offset s g steps) (temp s h) (global_words s g steps)
 
 -- the operands of a place are in temps from h on, and its words go there; temp `at`, above them, is free for the address
 abbrev pub read_code : Slots → Pl → (at h : ℕ) → List Instr
@@ -596,7 +614,7 @@ module _ (p : Program) where
       sts_code s (next x xs) h out again pc = st_code s x h out again pc ++ sts_code s xs h out again (pc + st_size x)
 
   abbrev pub slots_of : Func → Slots
-  slots_of f = record { outgoing = outgoing_of p f; temps = temps_of p f; first = f.first; sites = p.sites }
+  slots_of f = record { outgoing = outgoing_of p f; temps = temps_of p f; first = f.first; sites = p.sites; globals = map (λ g. g.0) p.globals }
 
   -- what stands before a function's body
   abbrev pub entry_code : Func → List Instr

@@ -1,27 +1,26 @@
 -- The machine follows a `range` over an array.
-use Rattle.std.proofs.Common.{◌≡◌, ◌⊎◌, inl, inr, ℕ, suc, ◌+◌, ◌*◌, ◌^◌, ◌<◌, ◌≤◌, pos, Bool, true, false, List, [], ◌∷◌, ◌++◌, length, Some, refl, sym, ap, ◌∙◌, subst, arith, append_assoc, append-nil}
-use Rattle.std.specs.Prelude.{slice_get, slice_index, slice_set, max}
+use Rattle.std.proofs.Common.{◌≡◌, inl, inr, ℕ, suc, ◌+◌, ◌*◌, ◌^◌, ◌<◌, ◌≤◌, pos, Bool, true, false, List, [], ◌∷◌, ◌++◌, length, refl, sym, ap, ◌∙◌, subst, arith, append_assoc, append-nil}
+use Rattle.std.specs.Prelude.{slice_index, slice_set, max}
 use Rattle.typed_syntax.specs.Types.{TypeTree, ints, array_of, width, part_type}
 use Rattle.typed_syntax.specs.Value.{Value, int, IsOf}
-use Rattle.typed_syntax.specs.Paths.{at_path, offset}
-use Rattle.typed_syntax.specs.Words.{contents}
+use Rattle.typed_syntax.specs.Paths.{at_path}
 use Rattle.value_laws.proofs.Parts.{count_of, within}
-use Rattle.typed_syntax.specs.Syntax.{Ex, Pl, Left, Sts, constant, blank, new, to, local, here as itself, at_index, over_length, over_copy, range, argument_words, site_type}
-use Rattle.typed_syntax.specs.Form.{InScope, new_sites, scope_behind, LeftsFit, StsFit, breaks_all}
-use Rattle.typed_syntax.specs.Frames.{left_far, lefts_far, behind_values, pair_need, element_words, lefts_need, sts_need, sts_reach, outgoing_of, temps_of}
+use Rattle.typed_syntax.specs.Syntax.{Ex, Left, Sts, constant, blank, new, to, local, here as itself, at_index, over_length, over_copy, range, argument_words, site_type}
+use Rattle.typed_syntax.specs.Form.{InScope, new_sites, scope_behind, StsFit}
+use Rattle.typed_syntax.specs.Frames.{left_far, lefts_far, behind_values, sts_need, sts_reach, outgoing_of, temps_of}
 use Rattle.meaning.specs.Trace.{World, Trace}
 use Rattle.meaning.specs.Store.{value_of, born}
 use Rattle.meaning.specs.Meaning
 use Rattle.meaning.specs.Meaning.{Env, Go, Ways, Calls, Setting, with_home}
 use Rattle.isa.specs.declared.instr.Instr.{Instr}
-use Rattle.isa.specs.declared.instr.Instr.TheVariants.{Const, Bin, Jump, JumpZero, Move, Address, Index, Load}
+use Rattle.isa.specs.declared.instr.Instr.TheVariants.{Const, Bin, Jump, Move}
 use Rattle.isa.specs.declared.instr.BinOp.TheVariants as Word
 use Rattle.machine.specs.Machine.{put_words, words_at}
 use Rattle.program_code.specs.Code.{Slots, temp, site_slot, site_words, slots_of, moves, lefts_above, lefts_code, lefts_size, ready_code, lefts_sized, index_round_code, index_round_size, element_code, element_round_code, element_round_size, array_code, ex_code, size, sts_code, sts_size}
 use Rattle.program_code.proofs.Sizes.{length_code, length_ready, length_index_round, length_element_round, lefts_sum, length_sts}
 use Rattle.program_code.proofs.Rooms.{key_alone, address_room, array_room, lefts_room, lefts_others}
 use Rattle.program_code.proofs.Sites.{site_within}
-use Rattle.simulated_code.proofs.Frames.{Built, Frame, hold, during, grown, numbers, depth, Good, narrowed, wide_of}
+use Rattle.simulated_code.proofs.Frames.{Built, Frame, hold, during, numbers, depth, Good, narrowed, wide_of}
 use Rattle.simulated_code.proofs.Changes.{one_more, temp_set, fewer, held_word, held_room, held_stand, born_site}
 use Rattle.simulated_code.proofs.Places.{Standing, front, back, At, later, place_is, turned, seen, read_of, bore, stepped, words_moved}
 use Rattle.simulated_code.proofs.Moves.{CallsFollow}

@@ -1,11 +1,13 @@
 -- The births of the package variables, with which a program begins.
-use Rattle.std.proofs.Common.{◌≡◌, ◌≢◌, inl, inr, ℕ, zero, suc, ◌+◌, ◌-◌, ◌<◌, ◌≤◌, pos, Bool, true, false, List, [], ◌∷◌, ◌++◌, length, replicate, Some, refl, sym, ap, ◌∙◌, subst, arith, get_or}
-use Rattle.std.specs.Prelude.{slice_get, slice_index, slice_set, nat_le, ◌==◌, ◌||◌, if◌then◌else◌}
-use Rattle.std.proofs.lemmas.Bool.{eq-eqb, le-leb, lt-leb}
+use Rattle.std.proofs.Common.{◌≡◌, ◌≢◌, ℕ, zero, suc, ◌+◌, ◌<◌, ◌≤◌, Bool, true, false, List, [], ◌∷◌, ◌++◌, length, Some, refl, sym, ap, ◌∙◌, subst, arith, get_or, length-append, inl, inr}
+use Rattle.std.specs.Prelude.{slice_get, slice_index, map, nat_le, ◌==◌, ◌||◌, if◌then◌else◌}
+use Rattle.std.proofs.lemmas.Bool.{eq-eqb}
 use Rattle.std.proofs.lemmas.Bool.Decides.{leb_tells}
-use Rattle.typed_syntax.specs.Value.{Value, int, bool, composite, words}
+use Rattle.std.proofs.lemmas.List.{get_or_append_left, get_or-append-add, length-map, map-append}
+use Rattle.typed_syntax.specs.Types.{TypeTree, ints, width}
+use Rattle.typed_syntax.specs.Value.{Value, Values, int, bool, composite, no_values, more_values, words, IsOf, FitsWords, FitWords}
+use Rattle.typed_syntax.specs.Words.{bit_of, word_of, contents, contents_in, words_of, Hold}
 use Rattle.typed_syntax.specs.Placement.{among}
-use Rattle.typed_syntax.specs.Form.{IsWord}
 use Rattle.meaning.specs.Trace.{Ending, HeapLimit, World}
 use Rattle.meaning.specs.Store.{value_of, born}
 use Rattle.meaning.specs.Meaning
@@ -15,13 +17,19 @@ use Rattle.simulation.specs.Outcome as Run
 use Rattle.simulation.specs.Outcome.{Lines, Outcome}
 use Rattle.simulation.specs.Follows.{Follows}
 use Rattle.simulation.proofs.Rules
-use Rattle.heap_bump.specs.Words.{first_address, with_word}
+use Rattle.isa.specs.Bin as Bin
 use Rattle.machine.specs.Machine.{Event}
 use Rattle.machine.specs.declared.run_state.Ending.{Ending as Stop}
 use Rattle.machine.specs.declared.run_state.Ending.TheVariants.{HeapLimit as Full}
-use Rattle.program_code.specs.Code.{word_of}
-use Rattle.simulated_code.specs.Correct.{same_event, same_end, first_words}
+use Rattle.program_code.specs.Code.{globals_before}
+use Rattle.value_laws.proofs.Lists.{held_joined}
+use Rattle.value_laws.proofs.Parts.{count_of, words_count}
+use Rattle.simulated_code.specs.Correct.{same_event, same_end, first_words, begun}
+use Rattle.simulated_code.proofs.PackageWords.{no_global, sites_of}
+use Rattle.simulated_code.proofs.Frames.{StandsFor, nothing}
 use Rattle.simulated_code.proofs.Changes.{born_earlier, born_value, born_length}
+use Rattle.simulated_code.proofs.Composites.{held_stand_in}
+use Rattle.simulated_code.proofs.Numbers.{number_stands}
 use Rattle.simulated_code.proofs.Crossing.{different}
 use Rattle.simulated_code.proofs.Scopes.{first_or, second_or}
 
@@ -46,36 +54,71 @@ all_among (g ∷ gs) = (
   all_more (λ site. among site gs) (λ site. among site (g ∷ gs)) gs (λ site e. second_or (g.0 == site) (among site gs) e) (all_among gs),
 )
 
-pub first_length : (gs : List (ℕ × Value)) → length (first_words gs) ≡ length gs
-first_length [] = refl
-first_length (g ∷ gs) = ap suc (first_length gs)
+-- the words that are taken, where some are after others
+abbrev pub taken : List ℕ → List (List ℕ) → List ℕ
+taken heap [] = heap
+taken heap (ws ∷ more) = taken (heap ++ ws) more
 
--- a word that is taken after others gets its value
-last_set : (ws : List ℕ) (x y : ℕ) → slice_set (ws ++ x ∷ []) (length ws) y ≡ ws ++ y ∷ []
-last_set [] x y = refl
-last_set (w ∷ ws) x y = ap (λ l. w ∷ l) (last_set ws x y)
+-- each begins with a value of its site's type, whose whole numbers are of 64 bits
+abbrev pub AllFit : List TypeTree → List (ℕ × Value) → Type 0
+AllFit sites [] = Unit {0}
+AllFit sites (g ∷ gs) = (IsOf (get_or sites g.0 ints) g.1 × FitsWords g.1) × AllFit sites gs
 
-pub word_taken : (ws : List ℕ) (at word : ℕ) → at ≡ first_address + length ws → with_word (ws ++ replicate 1 0) at word ≡ ws ++ word ∷ []
-word_taken ws at word e = let i : at - first_address ≡ length ws = omega (arith, e) in ap (λ n. slice_set (ws ++ 0 ∷ []) n word) i ∙ last_set ws 0 word
+-- the words of a value hold what it holds
+bit_same : (b : Bool) → bit_of b ≡ Bin.bit_of b
+bit_same true = refl
+bit_same false = refl
 
--- in the place of a package variable that is not there
-abbrev pub no_global : ℕ × Value
-no_global = (0, int (pos 0))
+mutual
+  words_hold : (v : Value) → FitsWords v → Hold StandsFor (contents v) (words_of v)
+  words_hold (int z) fits = (number_stands z fits, tt)
+  words_hold (bool b) fits = (bit_same b, tt)
+  words_hold (composite vs) fits = words_hold_in vs fits
 
-pub first_word : (gs : List (ℕ × Value)) (i : ℕ) → i < length gs → slice_index (first_words gs) i ≡ word_of (get_or gs i no_global).1
-first_word [] i l = absurd (omega arith)
-first_word (g ∷ gs) zero l = refl
-first_word (g ∷ gs) (suc i) l = first_word gs i (omega arith)
+  words_hold_in : (vs : Values) → FitWords vs → Hold StandsFor (contents_in vs) (map word_of (contents_in vs))
+  words_hold_in no_values fits = tt
+  words_hold_in (more_values v vs) fits =
+      subst (λ ws. Hold StandsFor (contents v ++ contents_in vs) ws) (sym (map-append word_of (contents v) (contents_in vs)))
+      (held_joined StandsFor (contents v) (contents_in vs) (words_of v) (map word_of (contents_in vs)) (words_hold v fits.0)
+      (words_hold_in vs fits.1))
 
--- each begins with a number or a truth value
-abbrev pub AllWords : List (ℕ × Value) → Type 0
-AllWords [] = Unit {0}
-AllWords (g ∷ gs) = IsWord g.1 × AllWords gs
+first_long : (t : TypeTree) (v : Value) → IsOf t v → length (words_of v) ≡ width t
+first_long t v is = length-map (contents v) word_of ∙ count_of t v is
 
-one_word : (v : Value) → IsWord v → words v ≡ 1
-one_word (int z) is = refl
-one_word (bool b) is = refl
-one_word (composite vs) is = absurd is
+pub taken_length : (sites : List TypeTree) (gs : List (ℕ × Value)) (heap : List ℕ) → AllFit sites gs
+    → length (taken heap (first_words gs)) ≡ length heap + globals_before sites (sites_of gs) (length gs)
+taken_length sites [] heap fit = omega arith
+taken_length sites ((site, v) ∷ gs) heap fit =
+    let long = first_long (get_or sites site ints) v fit.0.0 in
+    omega (arith, taken_length sites gs (heap ++ words_of v) fit.1, length-append heap (words_of v), long)
+
+taken_earlier : (wss : List (List ℕ)) (heap : List ℕ) (i : ℕ) → i < length heap → slice_index (taken heap wss) i ≡ slice_index heap i
+taken_earlier [] heap i l = refl
+taken_earlier (ws ∷ wss) heap i l = taken_earlier wss (heap ++ ws) i (omega (arith, length-append heap ws))
+    ∙ get_or_append_left heap ws 0 i l
+
+-- and so they stand in the heap
+pub taken_stands : (sites : List TypeTree) (gs : List (ℕ × Value)) (heap : List ℕ) (g j : ℕ) → AllFit sites gs → g < length gs
+    → j < width (get_or sites (get_or gs g no_global).0 ints)
+    → StandsFor (get_or (contents (get_or gs g no_global).1) j nothing)
+    (slice_index (taken heap (first_words gs)) (length heap + globals_before sites (sites_of gs) g + j))
+taken_stands sites [] heap g j fit l k = absurd (omega arith)
+taken_stands sites ((site, v) ∷ gs) heap zero j fit l k =
+    let long = first_long (get_or sites site ints) v fit.0.0 in let count = count_of (get_or sites site ints) v fit.0.0 in
+    let at : length heap + 0 + j ≡ length heap + j = omega arith in
+    subst (λ x. StandsFor (get_or (contents v) j nothing) x)
+    (sym (taken_earlier (first_words gs) (heap ++ words_of v) (length heap + 0 + j)
+    (omega (arith, length-append heap (words_of v), long)) ∙ ap (slice_index (heap ++ words_of v)) at
+    ∙ get_or-append-add heap (words_of v) j 0))
+    ((held_stand_in (contents v) (words_of v) (words_hold v fit.0.1)).each j (omega (arith, count)))
+taken_stands sites ((site, v) ∷ gs) heap (suc g) j fit l k =
+    let rest = globals_before sites (sites_of gs) g in let n = width (get_or sites site ints) in
+    let long = first_long (get_or sites site ints) v fit.0.0 in
+    let at : length (heap ++ words_of v) + rest + j ≡ length heap + (n + rest) + j =
+    omega (arith, length-append heap (words_of v), long) in
+    subst (λ i. StandsFor (get_or (contents (get_or gs g no_global).1) j nothing)
+    (slice_index (taken (heap ++ words_of v) (first_words gs)) i)) at
+    (taken_stands sites gs (heap ++ words_of v) g j fit.1 (omega arith) k)
 
 module _ (around : Setting) where
   -- the state after the births
@@ -106,37 +149,38 @@ module _ (around : Setting) where
       let e : length w.store + suc i ≡ length (born w cell).store + i = omega (arith, born_length w cell) in
       ap (value_of (born_all gs (born w cell))) e ∙ all_values gs (born w cell) i (omega arith)
 
-  -- They follow: each takes a word of the heap, until the heap is full.
-  module _ (l : Limits) (strings : List (List ℕ)) (g : Go) (run : ℕ → Outcome Event Stop) (b : ℕ) where
+  -- They follow: each takes its words of the heap, until one has no room.
+  module _ (l : Limits) (strings : List (List ℕ)) (g : Go) (run : List ℕ → ℕ → Outcome Event Stop) (b : ℕ) where
     abbrev Follow : Lines Sight Ending → (ℕ → Outcome Event Stop) → Type 0
     Follow t m = Follows Sight Event Ending Stop same_event (same_end strings) 0 0 b t m
 
-    -- what follows them, or the end at the limit
-    abbrev gated : Bool → ℕ → Outcome Event Stop
-    gated x k = if x then run k else Run.Ends (Full l.heap_max 1 l.heap_max)
-
-    opened : (x : Bool) (t : Lines Sight Ending) → x ≡ true → Follow t run → Follow t (gated x)
-    opened x t e f = subst (λ y. Follow t (gated y)) (sym e) f
-
-    full : (heap : ℕ) (x : Bool) → heap ≡ l.heap_max → x ≡ false → Follow (Run.End (HeapLimit heap 1 l.heap_max)) (gated x)
-    full heap x e off =
-        Rules.ended Sight Event Ending Stop same_event (same_end strings) {lo = 0} {hi = 0} {b = b} (HeapLimit heap 1 l.heap_max) (Full l.heap_max 1 l.heap_max) (e, refl, refl)
-        (λ k. ap (λ y. gated y k) off)
-
-    pub globals_follow : (gs : List (ℕ × Value)) (w : World) (heap total : ℕ) → AllOn l.on_heap gs → AllWords gs → heap + length gs ≡ total → heap ≤ l.heap_max → (total ≤ l.heap_max → Follow (out l [] total (g (born_all gs w))) run)
-        → Follow (out l [] heap (Meaning.bear_globals around gs g w)) (gated (nat_le total l.heap_max))
-    globals_follow [] w heap total on plain e le post =
-        let same : total ≡ heap = omega (arith, e) in
-        subst (λ n. Follow (out l [] n (g w)) (gated (nat_le total l.heap_max))) same
-        (opened (nat_le total l.heap_max) (out l [] total (g w)) (le-leb total l.heap_max (omega (arith, e))) (post (omega (arith, e))))
-    globals_follow ((site, v) ∷ gs) w heap total on plain e le post =
-        let u = born w (Meaning.new_cell around 0 site v) in
-        let t = Meaning.bear_globals around gs g u in let goal = gated (nat_le total l.heap_max) in
-        subst (λ x. Follow (if x then (if nat_le (heap + words v) l.heap_max then out l [] (heap + words v) t else Run.End (HeapLimit heap (words v) l.heap_max)) else out l [] heap t) goal) (sym on.0)
-        (subst (λ n. Follow (if nat_le (heap + n) l.heap_max then out l [] (heap + n) t else Run.End (HeapLimit heap n l.heap_max)) goal) (sym (one_word v plain.0))
-        (elim (leb_tells (heap + 1) l.heap_max) [
-          | inl p ↦ subst (λ x. Follow (if x then out l [] (heap + 1) t else Run.End (HeapLimit heap 1 l.heap_max)) goal) (sym p.0)
-              (globals_follow gs u (heap + 1) total on.1 plain.1 (omega (arith, e)) p.1 post)
-          | inr p ↦ (let past = p.1 in subst (λ x. Follow (if x then out l [] (heap + 1) t else Run.End (HeapLimit heap 1 l.heap_max)) goal) (sym p.0)
-              (full heap (nat_le total l.heap_max) (omega arith) (lt-leb total l.heap_max (omega (arith, e)))))
+    pub globals_follow : (gs : List (ℕ × Value)) (w : World) (heap : List ℕ) → AllOn l.on_heap gs → length heap ≤ l.heap_max
+        → (length (taken heap (first_words gs)) ≤ l.heap_max
+        → Follow (out l [] (length (taken heap (first_words gs))) (g (born_all gs w))) (run (taken heap (first_words gs))))
+        → Follow (out l [] (length heap) (Meaning.bear_globals around gs g w))
+        (λ k. begun l.heap_max heap (first_words gs) (λ ws. run ws k))
+    globals_follow [] w heap on le post = post le
+    globals_follow ((site, v) ∷ gs) w heap on le post =
+        let u = born w (Meaning.new_cell around 0 site v) in let t = Meaning.bear_globals around gs g u in
+        let n = length (words_of v) in let have = length heap in let rest = first_words gs in
+        let same : n ≡ words v = length-map (contents v) word_of ∙ sym (words_count v) in
+        subst (λ x. Follow (if x then (if nat_le (have + words v) l.heap_max then out l [] (have + words v) t else Run.End
+        (HeapLimit have (words v) l.heap_max)) else out l [] have t)
+        (λ k. if nat_le (have + n) l.heap_max then begun l.heap_max (heap ++ words_of v) rest (λ ws. run ws k) else Run.Ends
+        (Full have n l.heap_max))) (sym on.0)
+        (subst (λ c. Follow (if nat_le (have + c) l.heap_max then out l [] (have + c) t else Run.End (HeapLimit have c l.heap_max))
+        (λ k. if nat_le (have + n) l.heap_max then begun l.heap_max (heap ++ words_of v) rest (λ ws. run ws k) else Run.Ends
+        (Full have n l.heap_max))) same
+        (elim (leb_tells (have + n) l.heap_max) [
+          | inl p ↦ subst (λ x. Follow (if x then out l [] (have + n) t else Run.End (HeapLimit have n l.heap_max))
+              (λ k. if x then begun l.heap_max (heap ++ words_of v) rest (λ ws. run ws k) else Run.Ends
+              (Full have n l.heap_max))) (sym p.0)
+              (subst (λ c. Follow (out l [] c t) (λ k. begun l.heap_max (heap ++ words_of v) rest (λ ws. run ws k)))
+              (length-append heap (words_of v))
+              (globals_follow gs u (heap ++ words_of v) on.1 (let fits = p.1 in omega (arith, length-append heap (words_of v))) post))
+          | inr p ↦ subst (λ x. Follow (if x then out l [] (have + n) t else Run.End (HeapLimit have n l.heap_max))
+              (λ k. if x then begun l.heap_max (heap ++ words_of v) rest (λ ws. run ws k) else Run.Ends
+              (Full have n l.heap_max))) (sym p.0)
+              (Rules.ended Sight Event Ending Stop same_event (same_end strings) {lo = 0} {hi = 0} {b = b}
+              (HeapLimit have n l.heap_max) (Full have n l.heap_max) (refl, refl, refl) (λ k. refl))
         ]))

@@ -517,21 +517,27 @@ module _ (m : Built) where
             (other_stays c calls w words g v from xs among.0 among.1 many u (value_of w (c.env u)) p.1 a.0 a.1 (g.stack.0.types u j) (g.stack.0.values u j)))
       ]
 
-  -- a package variable gets a value
-  pub written_global : (calls : List Frame) (w : World) (words : List ℕ) (y : Value) (p : ℕ) → p < length m.program.globals → IsOf (global_type m.program p) y → Good m calls w words → Good m calls (written w p [] y) words
-  written_global calls w words y p l typed g = record {
+  -- a part of a package variable gets a value
+  pub written_global : (calls : List Frame) (w : World) (words : List ℕ) (y : Value) (p : ℕ) (path : List ℕ) (t : TypeTree)
+      → p < length m.program.globals → Leads (global_type m.program p) path t → IsOf t y → Good m calls w words
+      → Good m calls (written w p path y) words
+  written_global calls w words y p path t l leads typed g = record {
     long = g.long;
     many = let least = g.many in omega (arith, same_length);
     within = g.within;
     kinds = λ q k. elim (eqb_tells q p) [
-      | inl e ↦ subst (λ t. IsOf (global_type m.program q) t) (sym (ap (λ u. value_of (written w p [] y) u) e.1 ∙ change_same w.store p [] y (let least = g.many in omega arith))) (subst (λ u. IsOf (global_type m.program u) y) (sym e.1) typed)
-      | inr e ↦ subst (λ t. IsOf (global_type m.program q) t) (sym (change_other w.store p q [] y e.1)) (g.kinds q k)
+      | inl e ↦ subst (λ z. IsOf (global_type m.program q) z)
+          (sym (ap (λ u. value_of (written w p path y) u) e.1 ∙ change_same w.store p path y (let least = g.many in omega arith)))
+          (subst (λ u. IsOf (global_type m.program u) (with_path (value_of w p) path y)) (sym e.1)
+          (with_is (global_type m.program p) t (value_of w p) y path (g.kinds p l) leads typed))
+      | inr e ↦ subst (λ z. IsOf (global_type m.program q) z) (sym (change_other w.store p q path y e.1)) (g.kinds q k)
     ];
-    stack = stack_keeps m (length w.store) (length (written w p [] y).store) calls w (written w p [] y) words words (omega (arith, same_length)) (λ x a k. change_other w.store p x [] y (λ e. absurd (omega arith))) (λ d k. refl) g.stack;
+    stack = stack_keeps m (length w.store) (length (written w p path y).store) calls w (written w p path y) words words
+        (omega (arith, same_length)) (λ x a k. change_other w.store p x path y (λ e. absurd (omega arith))) (λ d k. refl) g.stack;
   }
     where
-      same_length : length (written w p [] y).store ≡ length w.store
-      same_length = change_length w.store p [] y
+      same_length : length (written w p path y).store ≡ length w.store
+      same_length = change_length w.store p path y
 
   -- a call begins
   pub entered_frame : (f : ℕ) (func : Func) (calls : List Frame) (w : World) (words : List ℕ) (link ret : ℕ) → slice_get m.program.funcs f ≡ Some func → link ≡ link_of m calls → ret ≡ back_of calls → frame_of m.program func + depth m calls ≤ m.max → Good m calls w words →

@@ -25,6 +25,7 @@ use Rattle.machine.specs.declared.run_state.Ending.TheVariants.{StackLimit as Li
 use Rattle.simulated_code.specs.Correct.{same_event, same_end}
 use Rattle.program_code.proofs.Compiled.{Placed}
 use Rattle.simulated_code.proofs.Distances.{word_at, word_slot, put_length, put_other, entered_keeps}
+use Rattle.simulated_code.proofs.PackageWords.{all_words}
 use Rattle.simulated_code.proofs.Frames.{Built, AreAt, Frame, placed, fresh, numbers, back_of, depth, link_of, Stack, Good, moved, contents_of, lie_kept, of_length, wide_of}
 use Rattle.simulated_code.proofs.Changes.{outgoing_put, entered_frame}
 use Rattle.simulated_code.proofs.Places.{words_limits, state_at, At, frame_here, stepped, stopped}
@@ -78,7 +79,7 @@ module _ (m : Built) where
   called c calls w words f func vs pc lo b t place named here own typed room are g post = record {
     at = λ heap hs.
         let s = state_at m pc words w.reads heap in
-        let count = length m.program.globals in
+        let count = all_words m.program in
         subst (λ n. Follows Sight Event Ending Stop same_event (same_end m.program.strings) (suc lo) 1 b (if nat_le (n + frame_in m.program (slice_get m.program.funcs f)) m.max then out (words_limits m) (f ∷ numbers (c ∷ calls)) count t else Run.End (StackLimit n (frame_in m.program (slice_get m.program.funcs f)) m.max)) (λ k. exec (act m.code m.max m.items) k s))
         (g.long ∙ sym (used (length w.store) (c ∷ calls) w words g.stack))
         (subst (λ n. Follows Sight Event Ending Stop same_event (same_end m.program.strings) (suc lo) 1 b (if nat_le (length words + n) m.max then out (words_limits m) (f ∷ numbers (c ∷ calls)) count t else Run.End (StackLimit (length words) n m.max)) (λ k. exec (act m.code m.max m.items) k s))

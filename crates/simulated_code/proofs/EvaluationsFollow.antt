@@ -3,12 +3,12 @@ use Rattle.std.proofs.Common.{◌≡◌, ℕ, zero, suc, ◌+◌, ◌<◌, ◌�
 use Rattle.std.specs.Prelude.{slice_get, slice_index, slice_set, take, replicate, max, None, IfSome, FitsSigned}
 use Rattle.std.specs.Int.{w64}
 use Rattle.typed_syntax.specs.Value.{Value, int, bool, IsOf, composite, zero_of}
-use Rattle.typed_syntax.specs.Syntax.{Pl, Steps, local, global, here as itself, inner, at_index, type_in, type_named, site_type, Ex, Exs, Piece, Func, Program, constant, read, unary, binary, logical_and, logical_or, call, part_of, literal, Elements, no_elements, element, none, more, results, read_int, text, shown, wide, ascend_from, ascend, words_before, words_through, gap_behind}
+use Rattle.typed_syntax.specs.Syntax.{Pl, Steps, local, global, here as itself, inner, at_index, type_in, type_named, site_type, global_type, Ex, Exs, Piece, Func, Program, constant, read, unary, binary, logical_and, logical_or, call, part_of, literal, Elements, no_elements, element, none, more, results, read_int, text, shown, wide, ascend_from, ascend, words_before, words_through, gap_behind}
 use Rattle.value_laws.proofs.Parts.{words_count, count_of, part_is, with_part_is}
 use Rattle.simulated_code.proofs.Numbers.{truth_of}
 use Rattle.typed_syntax.specs.Form.{IsPlain, AreOf, IsWord, PlFits, StepsLead, ExFits, ExsFit, ElementsFit, PiecesFit}
 use Rattle.typed_syntax.specs.Frames.{far, place_need, steps_need, place_reach, steps_reach, need, need_all, elements_need, need_pieces, reach, reach_all, elements_reach, reach_pieces, outgoing_of, temps_of}
-use Rattle.meaning.specs.Trace.{World, Asked, Trace, Turn, Note}
+use Rattle.meaning.specs.Trace.{World, Asked, Turn, Note}
 use Rattle.meaning.specs.Operators.{unary_of}
 use Rattle.meaning.specs.Meaning
 use Rattle.meaning.specs.Meaning.{Go, Then, Ways, Calls, Setting, Item, Aim, Step, fixed, worked, only_value}
@@ -270,10 +270,8 @@ module _ (m : Built) where
           → At m (numbers (c ∷ calls)) lo 0 b (Meaning.aim around callees q ws c.env k w) pc words w
       place_follows (local site steps) t behind others c calls ws k w words h pc lo b le hh stops has fit enough reaches g post =
           steps_follow steps (site_type m.program site) t behind others c calls ws (λ r. k (record { base = Meaning.variable (c.env site); steps = r })) w words h pc lo b le hh stops has fit.1 enough reaches g post
-      place_follows (global g0 itself) t behind others c calls ws k w words h pc lo b le hh stops has fit enough reaches g post =
-          place_is m (let q : pc + 0 ≡ pc = omega arith in q) (post [] w words tt (ap wide_of (append-nil c.held) ∙ hh) enough (held_none m c calls w words g))
-      place_follows (global g0 (inner i steps)) t behind others c calls ws k w words h pc lo b le hh stops has fit enough reaches g post = absurd fit
-      place_follows (global g0 (at_index at e x steps)) t behind others c calls ws k w words h pc lo b le hh stops has fit enough reaches g post = absurd fit
+      place_follows (global g0 steps) t behind others c calls ws k w words h pc lo b le hh stops has fit enough reaches g post =
+          steps_follow steps (global_type m.program g0) t behind others c calls ws (λ r. k (record { base = Meaning.variable g0; steps = r })) w words h pc lo b le hh stops has fit.1 enough reaches g post
 
       steps_follow : (steps : Steps) (u t : TypeTree) (behind others : ℕ) (c : Frame) (calls : List Frame) (ws : Ways) (k : Then (List Step)) (w : World) (words : List ℕ) (h pc lo b : ℕ) → b ≤ suc n → wide_of c.held ≡ h → Panics ws → Standing m.code c.fn pc (steps_code m.program (slots_of m.program c.func) steps h pc)
           → StepsLead m.program c.scope u steps t → h + steps_need m.program steps behind ≤ temps_of m.program c.func → steps_reach m.program steps others ≤ outgoing_of m.program c.func → Good m (c ∷ calls) w words

@@ -1,7 +1,7 @@
 -- The machine follows a program.
 use Rattle.std.proofs.Common.{◌≡◌, inl, inr, ℕ, zero, suc, ◌+◌, ◌-◌, ◌^◌, ◌<◌, ◌≤◌, Bool, true, false, List, [], ◌∷◌, ◌++◌, length, Option, Some, None, refl, sym, ap, ◌∙◌, subst, arith, get_or}
 use Rattle.std.specs.Prelude.{slice_get, slice_index, nat_le, replicate, if◌then◌else◌}
-use Rattle.typed_syntax.specs.Value.{Value, IsOf}
+use Rattle.typed_syntax.specs.Value.{Value, IsOf, FitsWords}
 use Rattle.std.proofs.lemmas.List.{length-map}
 use Rattle.std.proofs.lemmas.Bool.{leb-true}
 use Rattle.std.proofs.lemmas.Option.{slice_get-get_or}
@@ -9,7 +9,7 @@ use Rattle.typed_syntax.specs.Syntax.{Func, Program, argument_words, result_word
 use Rattle.std.proofs.lemmas.List.{nil_from_length}
 use Rattle.typed_syntax.specs.Words.{contents}
 use Rattle.value_laws.proofs.Zeros.{zero_is as zero_is_of}
-use Rattle.typed_syntax.specs.Form.{IsWord, AreOf, InScope, SitesNext, FuncFits, GlobalFits, IsInForm, ParamsFit, named_params, scope_with, params_scope, scope_in, body_first, breaks_all, ends_all}
+use Rattle.typed_syntax.specs.Form.{AreOf, InScope, SitesNext, FuncFits, GlobalFits, IsInForm, ParamsFit, named_params, scope_with, params_scope, scope_in, body_first, breaks_all, ends_all}
 use Rattle.typed_syntax.specs.Placement.{on_heap}
 use Rattle.typed_syntax.specs.Frames.{frame_in, frame_of, widest, temps_of}
 use Rattle.meaning.specs.Trace.{Ending, Exit, StackLimit, World}
@@ -26,17 +26,17 @@ use Rattle.isa.specs.Code.{Tables}
 use Rattle.isa.specs.declared.instr.Instr.{Instr}
 use Rattle.machine.specs.Machine.{Event, act, owner_of}
 use Rattle.machine.specs.declared.run_state.Ending.{Ending as Stop}
-use Rattle.machine.specs.declared.run_state.Ending.TheVariants.{StackLimit as Limit, HeapLimit as Full}
-use Rattle.program_code.specs.Code.{word_of, slots_of, params_code, zeros_code, params_size, entry_code, entry_size, sts_code, sts_size, leave_code, values_code, func_code}
+use Rattle.machine.specs.declared.run_state.Ending.TheVariants.{StackLimit as Limit}
+use Rattle.program_code.specs.Code.{slots_of, params_code, zeros_code, params_size, entry_code, entry_size, sts_code, sts_size, leave_code, values_code, func_code}
 use Rattle.simulated_code.specs.Correct.{same_event, same_end, limits, first_words, entered, target, Simulated, AreNumbers}
 use Rattle.program_code.proofs.Sizes.{length_params, length_entry, length_sts, length_func}
 use Rattle.program_code.proofs.Compiled.{Placed, Compiled}
-use Rattle.simulated_code.proofs.Frames.{Built, Stands, AreAt, Frame, placed, fresh, numbers, depth, room_of, Good, moved_back, StandIn, of_length, wide_of}
+use Rattle.simulated_code.proofs.PackageWords.{no_global, words_before, all_words}
+use Rattle.simulated_code.proofs.Frames.{Built, StandsFor, nothing, stands_same, AreAt, Frame, placed, fresh, numbers, depth, room_of, Good, moved_back, StandIn, of_length, wide_of}
 use Rattle.simulated_code.proofs.Changes.{first_frame}
 use Rattle.simulated_code.proofs.Composites.{zero_stands}
-use Rattle.simulated_code.proofs.Places.{value_same, Standing, front, back, standing, Panics, Heaps, At, state_at, place_is, none_asked, seen}
-use Rattle.simulated_code.proofs.Births.{AllWords, none_among, all_among, first_length, no_global, first_word, born_all, reads_kept, all_length, all_values, globals_follow}
-use Rattle.simulated_code.proofs.EvaluationsFollow.{word_stands}
+use Rattle.simulated_code.proofs.Places.{Standing, front, back, standing, Panics, Heaps, At, state_at, place_is, none_asked, seen}
+use Rattle.simulated_code.proofs.Births.{AllFit, none_among, all_among, taken, taken_length, taken_stands, born_all, reads_kept, all_length, all_values, globals_follow}
 use Rattle.simulated_code.proofs.Crossing.{Behind, Linked, called}
 use Rattle.simulated_code.proofs.Moves.{params_length, CallsFollow}
 use Rattle.simulated_code.proofs.ReturnsFollow.{Home, Given, Returns, home_returns}
@@ -186,13 +186,20 @@ module _ (p : Program) (code : Tables) (compiled : Compiled p code) (texts : cod
   apart : (f : ℕ) (func : Func) → slice_get p.funcs f ≡ Some func → (site : ℕ) → func.first ≤ site → site < func.first + func.count → on_heap p site ≡ false
   apart f func is site from to = none_among site p.globals (λ i g e same. elim ((form.globals i g e).apart f func is) [ inl l ↦ absurd (omega (arith, l, same)) | inr l ↦ absurd (omega (arith, l, same)) ])
 
-  all_words : (gs : List (ℕ × Value)) → ((i : ℕ) (g : ℕ × Value) → slice_get gs i ≡ Some g → IsWord g.1) → AllWords gs
-  all_words [] is = tt
-  all_words (g ∷ gs) is = (is 0 g refl, all_words gs (λ i h e. is (suc i) h e))
+  all_fit : (gs : List (ℕ × Value)) → ((i : ℕ) (g : ℕ × Value) → slice_get gs i ≡ Some g
+      → IsOf (site_type p g.0) g.1 × FitsWords g.1) → AllFit p.sites gs
+  all_fit [] is = tt
+  all_fit (g ∷ gs) is = (is 0 g refl, all_fit gs (λ i h e. is (suc i) h e))
+
+  globals_fit : AllFit p.sites p.globals
+  globals_fit = all_fit p.globals (λ i g e. (form.globals i g e).value)
 
   -- what the heap begins with
   abbrev heap : List ℕ
-  heap = first_words p.globals
+  heap = taken [] (first_words p.globals)
+
+  heap_long : length heap ≡ all_words p
+  heap_long = let none : 0 + all_words p ≡ all_words p = omega arith in taken_length p.sites p.globals [] globals_fit ∙ none
 
   -- the state in which `main` is called
   abbrev begun : World
@@ -210,17 +217,22 @@ module _ (p : Program) (code : Tables) (compiled : Compiled p code) (texts : cod
   begun_kinds : (i : ℕ) → i < length p.globals → IsOf (global_type p i) (value_of begun i)
   begun_kinds i l = subst (λ v. IsOf (global_type p i) v) (sym (begun_value i l)) (global_fits i l).value.0
 
-  begun_stands : (i : ℕ) → i < length p.globals → Stands (value_of begun i) (slice_index heap i)
-  begun_stands i l =
-      let v = (get_or p.globals i no_global).1 in
-      value_same v (value_of begun i) (word_of v) (slice_index heap i) (begun_value i l) (first_word p.globals i l) (word_stands v (global_fits i l).value.1)
+  begun_stands : (i j : ℕ) → i < length p.globals → j < width (global_type p i)
+      → StandsFor (get_or (contents (value_of begun i)) j nothing) (slice_index heap (words_before p i + j))
+  begun_stands i j l k =
+      let at : 0 + words_before p i + j ≡ words_before p i + j = omega arith in
+      stands_same (get_or (contents (get_or p.globals i no_global).1) j nothing)
+      (get_or (contents (value_of begun i)) j nothing) (slice_index heap (0 + words_before p i + j))
+      (slice_index heap (words_before p i + j))
+      (ap (λ v. get_or (contents v) j nothing) (begun_value i l)) (ap (slice_index heap) (sym at))
+      (taken_stands p.sites p.globals [] i j globals_fit l k)
 
-  module _ (few : length p.globals ≤ 2 ^ 32) (roomy : max ≤ 2 ^ 32) where
+  module _ (few : all_words p ≤ 2 ^ 32) (roomy : max ≤ 2 ^ 32) where
     abbrev built : Built
-    built = record { program = p; code = code; max = max; heap_max = heap_max; roomy = roomy; items = items; fits = form.fits; solid = form.solid; plain = λ g l. (global_fits g l).plain; few = few; stacked = apart; strings = texts; numbers = numbers_are; compiled = compiled }
+    built = record { program = p; code = code; max = max; heap_max = heap_max; roomy = roomy; items = items; fits = form.fits; solid = form.solid; few = few; stacked = apart; strings = texts; numbers = numbers_are; compiled = compiled }
 
     begun_heaps : Heaps built begun heap
-    begun_heaps = record { long = first_length p.globals; stands = begun_stands }
+    begun_heaps = record { long = heap_long; stands = begun_stands }
 
     -- no item was read before
     unread : (t : Lines Sight Ending) (start b : ℕ) (words : List ℕ) → Follows Sight Event Ending Stop same_event (same_end p.strings) 0 0 b t (λ k. exec (act code max items) k (state_at built start words begun.reads heap))
@@ -229,7 +241,9 @@ module _ (p : Program) (code : Tables) (compiled : Compiled p code) (texts : cod
 
     -- `main` is entered without a call
     main_follows : (n b : ℕ) → b ≤ suc n → (func : Func) → slice_get p.funcs p.main ≡ Some func → func.params ≡ [] → func.results ≡ [] → Follows Sight Event Ending Stop same_event (same_end p.strings) 0 0 b
-        (out (limits p max heap_max) [] (length p.globals) (Meaning.call_at around p.funcs (suc n) p.main [] Meaning.at_top (λ x. 0) (λ rs. Meaning.stop (Exit 0)) begun)) (entered code items max (record { words = heap; max = heap_max }) (slice_get code.funcs p.main))
+        (out (limits p max heap_max) [] (all_words p)
+        (Meaning.call_at around p.funcs (suc n) p.main [] Meaning.at_top (λ x. 0) (λ rs. Meaning.stop (Exit 0)) begun))
+        (entered code items max (record { words = heap; max = heap_max }) (slice_get code.funcs p.main))
     main_follows n b le func named no_params no_results =
         let callees = Meaning.call_at around p.funcs n in
         let place = compiled.placed p.main func named in
@@ -237,20 +251,31 @@ module _ (p : Program) (code : Tables) (compiled : Compiled p code) (texts : cod
         let none : length {A = Option ℕ} [] ≡ length func.params = ap (λ l. length l) (sym no_params) in
         let no_words : result_words func ≡ 0 = ap all_width no_results in
         let typed : AreOf func.param_types [] = none_of func.param_types (params_length p func.first func.param_types func.params (form.fits p.main func named).params ∙ sym none) in
-        subst (λ o. Follows Sight Event Ending Stop same_event (same_end p.strings) 0 0 b (out (limits p max heap_max) [] (length p.globals) (Meaning.run_body around p.funcs callees (suc n) p.main o [] Meaning.at_top (λ x. 0) (λ rs. Meaning.stop (Exit 0)) begun)) (entered code items max first (slice_get code.funcs p.main))) (sym named)
-        (subst (λ o. Follows Sight Event Ending Stop same_event (same_end p.strings) 0 0 b (out (limits p max heap_max) [] (length p.globals) (Meaning.run_body around p.funcs callees (suc n) p.main (Some func) [] Meaning.at_top (λ x. 0) (λ rs. Meaning.stop (Exit 0)) begun)) (λ k. entered code items max first o k)) (sym place.entry)
+        subst (λ o. Follows Sight Event Ending Stop same_event (same_end p.strings) 0 0 b
+        (out (limits p max heap_max) [] (all_words p)
+        (Meaning.run_body around p.funcs callees (suc n) p.main o [] Meaning.at_top (λ x. 0)
+        (λ rs. Meaning.stop (Exit 0)) begun)) (entered code items max first (slice_get code.funcs p.main))) (sym named)
+        (subst (λ o. Follows Sight Event Ending Stop same_event (same_end p.strings) 0 0 b
+        (out (limits p max heap_max) [] (all_words p)
+        (Meaning.run_body around p.funcs callees (suc n) p.main (Some func) [] Meaning.at_top (λ x. 0)
+        (λ rs. Meaning.stop (Exit 0)) begun)) (λ k. entered code items max first o k)) (sym place.entry)
         (first_gate p.strings (frame_in p (slice_get p.funcs p.main)) (frame_of p func) max b _ _ (ap (frame_in p) named)
         (λ fits. unread _ place.start b (replicate (frame_of p func) 0) ((body_follows built around refl refl refl zero_is n callees (calls_follow built around refl refl refl zero_is n) p.main func named place [] [] Meaning.at_top (λ x. 0) (λ rs. Meaning.stop (Exit 0)) begun (replicate (frame_of p func) 0) 0 b le tt (λ at x env1 w1. refl) typed (omega (arith, of_length func.param_types [] typed, no_words)) (λ j l. absurd (omega arith))
         (first_frame built p.main func begun named fits (omega (arith, begun_length)) begun_kinds) (λ rs w1. refl)).at heap begun_heaps))))
 
   -- the births of the package variables, and `main`
-  whole_follows : (n b : ℕ) → b ≤ suc n → max ≤ 2 ^ 32 → heap_max ≤ 2 ^ 32 → Follows Sight Event Ending Stop same_event (same_end p.strings) 0 0 b (out (limits p max heap_max) [] 0 (Meaning.trace items p n)) (target code items heap p.main max heap_max)
+  whole_follows : (n b : ℕ) → b ≤ suc n → max ≤ 2 ^ 32 → heap_max ≤ 2 ^ 32
+      → Follows Sight Event Ending Stop same_event (same_end p.strings) 0 0 b
+      (out (limits p max heap_max) [] 0 (Meaning.trace items p n)) (target code items (first_words p.globals) p.main max heap_max)
   whole_follows n b le roomy small =
       let main = Meaning.call_at around p.funcs (suc n) p.main [] Meaning.at_top (λ x. 0) (λ rs. Meaning.stop (Exit 0)) in
-      let first : Words = record { words = heap; max = heap_max } in
-      subst (λ count. Follows Sight Event Ending Stop same_event (same_end p.strings) 0 0 b (out (limits p max heap_max) [] 0 (Meaning.trace items p n)) (λ k. if nat_le count heap_max then entered code items max first (slice_get code.funcs p.main) k else Run.Ends (Full heap_max 1 heap_max))) (sym (first_length p.globals))
-      (globals_follow around (limits p max heap_max) p.strings main (entered code items max first (slice_get code.funcs p.main)) b p.globals Meaning.beginning 0 (length p.globals) (all_among p.globals) (all_words p.globals (λ i g e. (form.globals i g e).value.1)) (omega arith) (omega arith) (λ fits.
-      main_follows (omega arith) roomy n b le form.main.0 form.main.1 form.main.2 form.main.3))
+      globals_follow around (limits p max heap_max) p.strings main
+      (λ ws. entered code items max (record { words = ws; max = heap_max })
+      (slice_get code.funcs p.main)) b p.globals Meaning.beginning [] (all_among p.globals) (omega arith) (λ fits.
+      subst (λ count. Follows Sight Event Ending Stop same_event (same_end p.strings) 0 0 b
+      (out (limits p max heap_max) [] count (main begun))
+      (entered code items max (record { words = heap; max = heap_max }) (slice_get code.funcs p.main))) (sym heap_long)
+      (main_follows (omega (arith, heap_long)) roomy n b le form.main.0 form.main.1 form.main.2 form.main.3))
 
 -- the code of a program in form does what the program means
 pub simulated : (p : Program) (code : Tables) → Compiled p code → IsInForm p → code.strings ≡ p.strings → Simulated p code

@@ -7,7 +7,7 @@ use Rattle.typed_syntax.specs.Value.{Value, IsOf}
 use Rattle.typed_syntax.specs.Words.{Content, number, truth, contents}
 use Rattle.value_laws.proofs.Parts.{count_of}
 use Rattle.typed_syntax.specs.Syntax.{Func, Program, all_width, site_type, global_type}
-use Rattle.typed_syntax.specs.Form.{AreOf, IsPlain, InScope, FuncFits}
+use Rattle.typed_syntax.specs.Form.{AreOf, InScope, FuncFits}
 use Rattle.typed_syntax.specs.Frames.{words_between, outgoing_of, temps_of, frame_of}
 use Rattle.typed_syntax.specs.Placement.{on_heap}
 use Rattle.meaning.specs.Trace.{World}
@@ -21,6 +21,7 @@ use Rattle.simulated_code.specs.Correct.{AreNumbers}
 use Rattle.program_code.proofs.Compiled.{Compiled}
 use Rattle.simulated_code.proofs.Distances.{word_at}
 use Rattle.program_code.proofs.Sites.{site_within}
+use Rattle.simulated_code.proofs.PackageWords.{all_words}
 
 -- A program in form, its code, the most words that the stack and the heap may have, and the items of the input. The package
 -- variables have room in the heap, and no site of a function is theirs.
@@ -33,8 +34,7 @@ pub record Built : Type 0 where
   pub items : ℕ → Item
   pub fits : (f : ℕ) (func : Func) → slice_get program.funcs f ≡ Some func → FuncFits program func
   pub solid : (site : ℕ) → 0 < width (site_type program site)
-  pub plain : (g : ℕ) → g < length program.globals → IsPlain (global_type program g)
-  pub few : length program.globals ≤ 2 ^ 32
+  pub few : all_words program ≤ 2 ^ 32
   pub stacked : (f : ℕ) (func : Func) → slice_get program.funcs f ≡ Some func → (site : ℕ) → func.first ≤ site → site < func.first + func.count → on_heap program site ≡ false
   pub strings : code.strings ≡ program.strings
   pub numbers : AreNumbers items

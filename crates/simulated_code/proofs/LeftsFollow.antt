@@ -5,7 +5,7 @@ use Rattle.typed_syntax.specs.Value.{Value, IsOf}
 use Rattle.typed_syntax.specs.Syntax.{Pl, Steps, here as itself, inner, at_index, Left, Program, blank, new, to, local, global, site_type, each_width}
 use Rattle.typed_syntax.specs.Form.{AreOf, InScope, new_sites, AllInScope, PlFits, LeftsFit, SitesNext, NamedFit, scope_behind, scope_with}
 use Rattle.typed_syntax.specs.Frames.{far, lefts_far, widest, temps_of}
-use Rattle.meaning.specs.Trace.{World, Trace}
+use Rattle.meaning.specs.Trace.{World}
 use Rattle.meaning.specs.Store.{value_of, written, born}
 use Rattle.meaning.specs.Meaning
 use Rattle.meaning.specs.Meaning.{Env, Go, Ways, Calls, Setting, Landing, nowhere, birth, on, with_home}
@@ -79,9 +79,7 @@ module _ (m : Built) (around : Setting) where
   -- a place keeps its variable
   kept_place : (before scope : List ℕ) (first env : Env) (n top : ℕ) (t : TypeTree) (p : Pl) → Kept before scope first env n top → PlFits m.program before t p → Located m scope t p × (variable_of env p ≡ variable_of first p)
   kept_place before scope first env n top t (local site steps) kept fit = let k = kept site fit.0 in let l = located m before t (local site steps) fit in ((k.0, l.1, l.2), k.1)
-  kept_place before scope first env n top t (global g itself) kept fit = (fit, refl)
-  kept_place before scope first env n top t (global g (inner i steps)) kept fit = absurd fit
-  kept_place before scope first env n top t (global g (at_index at e x steps)) kept fit = absurd fit
+  kept_place before scope first env n top t (global g steps) kept fit = (located m before t (global g steps) fit, refl)
 
   -- Operands are in temps from one on, and values in temps from another one on, with others before and after them. An address
   -- goes to temp `at`, which is free.

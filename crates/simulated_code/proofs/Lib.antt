@@ -1,5 +1,6 @@
 pub mod Scopes
 pub mod Distances
+pub mod PackageWords
 pub mod Frames
 pub mod Changes
 pub mod Places

@@ -1,9 +1,10 @@
 -- A place of the code that a trace has come to, and the rules of a step.
-use Rattle.std.proofs.Common.{◌≡◌, ℕ, zero, suc, ◌+◌, ◌-◌, ◌<◌, ◌≤◌, Bool, List, [], ◌∷◌, ◌++◌, length, Some, refl, sym, ap, ◌∙◌, subst, arith}
+use Rattle.std.proofs.Common.{◌≡◌, ℕ, zero, suc, ◌+◌, ◌-◌, ◌<◌, ◌≤◌, Bool, List, [], ◌∷◌, ◌++◌, length, Some, refl, sym, ap, ◌∙◌, subst, arith, get_or}
 use Rattle.std.specs.Prelude.{slice_get, slice_index, replicate, nat_le, false, if◌then◌else◌}
 use Rattle.std.proofs.lemmas.Bool.{le-leb}
-use Rattle.typed_syntax.specs.Value.{Value}
-use Rattle.typed_syntax.specs.Syntax.{Func}
+use Rattle.typed_syntax.specs.Types.{width}
+use Rattle.typed_syntax.specs.Words.{contents}
+use Rattle.typed_syntax.specs.Syntax.{Func, global_type}
 use Rattle.typed_syntax.specs.Frames.{frame_in, frame_of}
 use Rattle.typed_syntax.specs.Placement.{on_heap}
 use Rattle.typed_syntax.specs.Positions.{Position}
@@ -27,7 +28,8 @@ use Rattle.program_code.specs.Code.{moves, zeros}
 use Rattle.simulated_code.proofs.Distances.{one_word, put_one}
 use Rattle.simulated_code.specs.Correct.{same_event, same_end}
 use Rattle.program_code.proofs.Compiled.{HasAt}
-use Rattle.simulated_code.proofs.Frames.{Built, Stands}
+use Rattle.simulated_code.proofs.PackageWords.{words_before, all_words}
+use Rattle.simulated_code.proofs.Frames.{Built, StandsFor, nothing}
 
 -- these instructions of one function stand at this place
 abbrev pub Standing : Tables → (f pc : ℕ) → List Instr → Type 0
@@ -59,9 +61,6 @@ standing code f pc (i ∷ is) h own =
       standing code f (pc + 1) is h.1 (λ j l. let e : pc + suc j ≡ pc + 1 + j = omega arith in ap (slice_get code.owners) (sym e) ∙ own (suc j) (omega arith)),
     )
 
-pub value_same : (v u : Value) (x y : ℕ) → u ≡ v → y ≡ x → Stands v x → Stands u y
-value_same v u x y ev ex s = subst (λ a. Stands a y) (sym ev) (subst (λ b. Stands v b) (sym ex) s)
-
 -- a panic ends the run
 abbrev pub Panics : Ways → Type 0
 Panics ws = (at : Position) (f : Fault) (env : Env) (w : World) → ws.panicked at f env w ≡ End (Panic at f)
@@ -70,17 +69,20 @@ module _ (m : Built) where
   abbrev pub words_limits : Limits
   words_limits = record { frame = λ f. frame_in m.program (slice_get m.program.funcs f); on_heap = on_heap m.program; stack_max = m.max; heap_max = m.heap_max }
 
-  -- the heap's words are those of the package variables, in their order
+  -- the heap's words are those of the package variables, one after the other
   pub record Heaps (w : World) (heap : List ℕ) : Type 0 where
-    pub long : length heap ≡ length m.program.globals
-    pub stands : (g : ℕ) → g < length m.program.globals → Stands (value_of w g) (slice_index heap g)
+    pub long : length heap ≡ all_words m.program
+    pub stands : (g j : ℕ) → g < length m.program.globals → j < width (global_type m.program g)
+        → StandsFor (get_or (contents (value_of w g)) j nothing) (slice_index heap (words_before m.program g + j))
 
   abbrev pub state_at : (pc : ℕ) → (words : List ℕ) → (reads : ℕ) → (heap : List ℕ) → State
   state_at pc words reads heap = record { pc = pc; words = words; reads = reads; heap = record { words = heap; max = m.heap_max } }
 
   -- a trace has come to a place, where these functions run, whatever words stand for the package variables
   pub record At (running : List ℕ) (lo hi b : ℕ) (t : Trace) (pc : ℕ) (words : List ℕ) (w : World) : Type 0 where
-    pub at : (heap : List ℕ) → Heaps w heap → Follows Sight Event Ending Stop same_event (same_end m.program.strings) lo hi b (out words_limits running (length m.program.globals) t) (λ k. exec (act m.code m.max m.items) k (state_at pc words w.reads heap))
+    pub at : (heap : List ℕ) → Heaps w heap → Follows Sight Event Ending Stop same_event (same_end m.program.strings) lo hi b
+        (out words_limits running (all_words m.program) t)
+        (λ k. exec (act m.code m.max m.items) k (state_at pc words w.reads heap))
 
   pub later : {running : List ℕ} {lo lo1 hi hi1 b b1 : ℕ} {t : Trace} {pc : ℕ} {words : List ℕ} {w : World} → lo ≤ lo1 → hi1 ≤ hi → b1 ≤ b → At running lo hi b t pc words w → At running lo1 hi1 b1 t pc words w
   later p h c a = record { at = λ heap hs. record { lower = λ n k le. (a.at heap hs).lower n k (omega arith); upper = λ n k lt le. (a.at heap hs).upper n k (omega arith) (omega arith) } }
@@ -110,7 +112,7 @@ module _ (m : Built) where
   pub bore : {running : List ℕ} {lo hi b : ℕ} {t : Trace} {pc : ℕ} {words : List ℕ} {w : World} (site n : ℕ) → on_heap m.program site ≡ false → At running lo hi b t pc words w → At running lo hi b (Note (Born site n) t) pc words w
   bore {running} {lo} {hi} {b} {t} {pc} {words} {w} site n off a = record {
     at = λ heap hs.
-        let count = length m.program.globals in
+        let count = all_words m.program in
         subst (λ (x : Bool). Follows Sight Event Ending Stop same_event (same_end m.program.strings) lo hi b
         (if x then (if nat_le (count + n) m.heap_max then out words_limits running (count + n) t else Run.End (HeapLimit count n m.heap_max)) else out words_limits running count t)
         (λ k. exec (act m.code m.max m.items) k (state_at pc words w.reads heap))) (sym off) (a.at heap hs);

@@ -1,33 +1,33 @@
 -- Places whose operands are held: their addresses, the values that they have, and the values that they get.
-use Rattle.std.proofs.Common.{◌≡◌, ℕ, zero, suc, ◌+◌, ◌*◌, ◌<◌, ◌≤◌, ◌^◌, List, [], ◌∷◌, ◌++◌, length, Some, refl, sym, ap, ◌∙◌, subst, arith, append_assoc, append-nil, length-append, get_or, get_or-set_same, length-set, suc-mul}
+use Rattle.std.proofs.Common.{◌≡◌, ℕ, zero, suc, ◌+◌, ◌*◌, ◌<◌, ◌≤◌, ◌^◌, List, [], ◌∷◌, ◌++◌, length, Some, refl, sym, ap, ◌∙◌, subst, arith, append_assoc, append-nil, get_or}
 use Rattle.std.specs.Prelude.{slice_get, slice_index, slice_set}
-use Rattle.std.specs.Int.{w64, cast_signed, cast_unsigned}
-use Rattle.std.proofs.lemmas.Int.{of_z-to_z}
+use Rattle.std.specs.Int.{w64, cast_signed}
 use Rattle.typed_syntax.specs.Types.{TypeTree, ints, array_of, width, part_count, part_type, part_offset}
 use Rattle.typed_syntax.specs.Value.{Value, int, bool, composite, IsOf}
 use Rattle.typed_syntax.specs.Paths.{at_path, Leads, type_at, offset}
 use Rattle.typed_syntax.specs.Words.{contents}
 use Rattle.value_laws.proofs.Parts.{count_of, leads_to, at_is, within, element, joined_types, part_words as words_of_part}
-use Rattle.typed_syntax.specs.Syntax.{Pl, Steps, Ex, local, global, here as itself, inner, at_index, path_of, global_type, site_type}
+use Rattle.typed_syntax.specs.Syntax.{Pl, Steps, local, global, here as itself, inner, at_index, path_of, global_type, site_type}
 use Rattle.typed_syntax.specs.Form.{InScope, PlFits, StepsLead}
-use Rattle.typed_syntax.specs.Frames.{steps_far, far, outgoing_of, temps_of}
+use Rattle.typed_syntax.specs.Frames.{steps_far, far, temps_of}
 use Rattle.meaning.specs.Trace.{World, Trace}
 use Rattle.meaning.specs.Store.{value_of, written}
 use Rattle.meaning.specs.Meaning
 use Rattle.meaning.specs.Meaning.{Env, Then, Ways, Aim, Spot, Step, fixed, worked, variable}
 use Rattle.isa.specs.declared.instr.Instr.TheVariants.{Const, Load, Store}
-use Rattle.machine.specs.Machine.{put_words, words_at}
-use Rattle.program_code.specs.Code.{temp, site_slot, slots_of, moves, global_address, index_code, steps_address, index_count, steps_address_size, address_code, address_size, far_offset, fetch_part, fetch_code, land_part, land_code}
+use Rattle.heap_bump.specs.Words.{first_address}
+use Rattle.machine.specs.Machine.{put_words, words_at, address_of}
+use Rattle.program_code.specs.Code.{temp, site_slot, slots_of, moves, index_code, steps_address, index_count, steps_address_size, address_code, address_size, far_offset, fetch_part, fetch_code, land_part, land_code}
 use Rattle.simulated_code.proofs.Distances.{read_length, read_index}
 use Rattle.program_code.proofs.Sites.{site_within}
-use Rattle.simulated_code.proofs.Frames.{Built, Stands, StandsFor, StandIn, Frame, hold, numbers, Good, depth, nothing, contents_of, wide_of, stands_same}
+use Rattle.simulated_code.proofs.Frames.{Built, Frame, hold, numbers, Good, depth, nothing, wide_of, stands_same}
 use Rattle.simulated_code.proofs.Changes.{one_more, temp_set, fewer, held_word, held_room, held_stand, site_word, value_put, written_site, written_global}
 use Rattle.simulated_code.proofs.Places.{Standing, Panics, At, later, place_is, turned, stepped, words_moved}
 use Rattle.simulated_code.proofs.Globals.{written_kept, loaded, stored}
 use Rattle.simulated_code.proofs.Moves.{held_none}
 use Rattle.simulated_code.proofs.Numbers.{signed_once}
-use Rattle.simulated_code.proofs.Addresses.{slot_address, address_small, stack_loaded, stack_stored, addressed, index_follows}
-use Rattle.program_code.proofs.Wide.{plain_one, plain_value}
+use Rattle.simulated_code.proofs.PackageWords.{words_before, all_words, words_within, type_is}
+use Rattle.simulated_code.proofs.Addresses.{slot_address, address_small, origin_is, stack_loaded, stack_stored, addressed, index_follows}
 
 -- ---- places without their operands
 
@@ -90,15 +90,11 @@ module _ (m : Built) where
   -- a place in scope, of a type
   abbrev pub Located : List ℕ → TypeTree → Pl → Type 0
   Located scope t (local site steps) = InScope site scope × Shaped (site_type m.program site) steps t × (0 < width t)
-  Located scope t (global g itself) = (g < length m.program.globals) × (global_type m.program g ≡ t)
-  Located scope t (global g (inner i steps)) = ⊥
-  Located scope t (global g (at_index at e n steps)) = ⊥
+  Located scope t (global g steps) = (g < length m.program.globals) × Shaped (global_type m.program g) steps t × (0 < width t)
 
   pub located : (scope : List ℕ) (t : TypeTree) (q : Pl) → PlFits m.program scope t q → Located scope t q
   located scope t (local site steps) fit = (fit.0, steps_shape scope (site_type m.program site) t steps fit.1, fit.2)
-  located scope t (global g itself) fit = fit
-  located scope t (global g (inner i steps)) fit = absurd fit
-  located scope t (global g (at_index at e n steps)) fit = absurd fit
+  located scope t (global g steps) fit = (fit.0, steps_shape scope (global_type m.program g) t steps fit.1, fit.2)
 
   -- ---- where a place is, by its indices
 
@@ -118,9 +114,15 @@ module _ (m : Built) where
     PartFrom (suc n) t steps before path word =
         (near : ℕ) × (word ≡ slot_address m (depth m (c ∷ calls)) near) × (near ≤ depth m (c ∷ calls)) × (near + far_offset t steps ≡ site_slot (slots_of m.program c.func) site + offset (site_type m.program site) path)
 
+  -- a part of a package variable, whose address is one of the heap
+  abbrev pub GlobalPart : (g : ℕ) → Steps → (path : List ℕ) → (word : ℕ) → Type 0
+  GlobalPart g steps path word =
+      (near : ℕ) × (word ≡ first_address + near) × (near ≤ all_words m.program)
+      × (near + offset (global_type m.program g) (path_of steps) ≡ words_before m.program g + offset (global_type m.program g) path)
+
   abbrev pub PlaceIn : Frame → List Frame → TypeTree → Pl → (path : List ℕ) → (word : ℕ) → Type 0
   PlaceIn c calls t (local site steps) path word = Leads (site_type m.program site) path t × PartFrom c calls site (steps_far steps) (site_type m.program site) steps [] path word
-  PlaceIn c calls t (global g steps) path word = (path ≡ []) × (word ≡ global_address g)
+  PlaceIn c calls t (global g steps) path word = Leads (global_type m.program g) path t × GlobalPart g steps path word
 
   -- the word of an address that is held
   pub address_word : (c : Frame) (calls : List Frame) (w : World) (words : List ℕ) (held more : List Value) (word at : ℕ) → wide_of held ≡ at → word < 2 ^ 64 → Good m (hold c ((held ++ as_number word ∷ []) ++ more) ∷ calls) w words → slice_index words (temp (slots_of m.program c.func) at) ≡ word
@@ -134,29 +136,23 @@ module _ (m : Built) where
 
   -- ---- the checks of a place, from its operands to its address
 
-  module _ (c : Frame) (calls : List Frame) (ws : Ways) (stops : Panics ws) (env : Env) (var : ℕ) (k : Then Spot) (w : World) (site : ℕ) (from : c.func.first ≤ site) (to : site < c.func.first + c.func.count) (s : TypeTree) (at lo b : ℕ) (ha : wide_of c.held ≡ at) where
-    abbrev own : TypeTree
-    own = site_type m.program site
-
-    abbrev slot : ℕ
-    slot = site_slot (slots_of m.program c.func) site
-
-    abbrev deep : ℕ
-    deep = depth m (c ∷ calls)
-
-    abbrev there : ℕ
-    there = temp (slots_of m.program c.func) at
+  -- of a variable whose words lie from one on among those from an origin on, after the address of the first array
+  module _ (c : Frame) (calls : List Frame) (ws : Ways) (stops : Panics ws) (env : Env) (var : ℕ) (k : Then Spot) (w : World)
+      (origin size : ℕ) (some_origin : 0 < origin) (small : origin + size < 2 ^ 64) (own : TypeTree) (begin : ℕ)
+      (inside : begin + width own ≤ size) (s : TypeTree) (at lo b : ℕ) (ha : wide_of c.held ≡ at) where
+    abbrev address_slot : ℕ
+    address_slot = temp (slots_of m.program c.func) at
 
     abbrev spot_at : List ℕ → Spot
     spot_at path = record { variable = var; path = path }
 
-    site_inside : slot + width own ≤ deep
-    site_inside = let r = site_within m.program c.func site from to in omega arith
-
-    -- after the address of the first array
     indexed : (steps : Steps) (vs gone more : List Value) (t : TypeTree) (path : List ℕ) (first near skipped pc : ℕ) (words : List ℕ) → Shaped t steps s → Operands steps vs → c.held ≡ gone ++ (vs ++ more) → wide_of gone ≡ first → at < temps_of m.program c.func → Leads own path t
-        → near + skipped ≡ slot + offset own path → near ≤ deep → Standing m.code c.fn pc (index_code (slots_of m.program c.func) t steps first at) → Good m (hold c (c.held ++ as_number (slot_address m deep near) ∷ []) ∷ calls) w words
-        → ((path1 : List ℕ) (near1 : ℕ) (words1 : List ℕ) → Leads own path1 s → near1 ≤ deep → near1 + (skipped + offset t (path_of steps)) ≡ slot + offset own path1 → Good m (hold c (c.held ++ as_number (slot_address m deep near1) ∷ []) ∷ calls) w words1
+        → near + skipped ≡ begin + offset own path → near ≤ size
+        → Standing m.code c.fn pc (index_code (slots_of m.program c.func) t steps first at)
+        → Good m (hold c (c.held ++ as_number (origin + near) ∷ []) ∷ calls) w words
+        → ((path1 : List ℕ) (near1 : ℕ) (words1 : List ℕ) → Leads own path1 s → near1 ≤ size
+        → near1 + (skipped + offset t (path_of steps)) ≡ begin + offset own path1
+        → Good m (hold c (c.held ++ as_number (origin + near1) ∷ []) ∷ calls) w words1
         → At m (numbers (c ∷ calls)) (12 + lo) 1 b (k (spot_at path1) w) (pc + index_count steps) words1 w)
         → At m (numbers (c ∷ calls)) (12 + lo) 0 b (Meaning.settle_steps ws env (steps_with steps vs) var path k w) pc words w
     indexed itself vs gone more t path first near skipped pc words shape given e hg room leads at_part le has g post =
@@ -171,35 +167,60 @@ module _ (m : Built) where
     indexed (at_index p e n steps) (bool x ∷ vs) gone more t path first near skipped pc words shape given eq hg room leads at_part le has g post = absurd given.0
     indexed (at_index p e n steps) (composite xs ∷ vs) gone more t path first near skipped pc words shape given eq hg room leads at_part le has g post = absurd given.0
     indexed (at_index p e n steps) (int z ∷ vs) gone more t path first near skipped pc words (r, is, some, shape) given eq hg room leads at_part le has g post =
-        let old = as_number (slot_address m deep near) in let count = width (part_type t 0) in
+        let old = as_number (origin + near) in let count = width (part_type t 0) in
         let first_type : part_type t 0 ≡ r = (element_leads t r n 0 is some).1 in let same : count ≡ width r = ap width first_type in
         let none = first_offset t r n is some in
         let part = λ (i : ℕ) (l : i < n). joined_types own t r path (i ∷ []) leads in
         let behind = λ (i : ℕ) (l : i < n). (let q : offset own (path ++ i ∷ []) ≡ offset own path + i * width r = (part i l).offset ∙ ap (λ x. offset own path + x) (element_offset t r n i is l) in q) in
         let led = λ (i : ℕ) (l : i < n). (let q : Leads own (path ++ i ∷ []) r = (part i l).leads (element_leads t r n i is l) in q) in
         let scaled = λ (i : ℕ). (let q : i * count ≡ i * width r = ap (λ x. i * x) same in q) in
-        let reached = λ (i : ℕ) (l : i < n). (let q : near + i * count + skipped ≡ slot + offset own (path ++ i ∷ []) = omega (arith, behind i l, scaled i) in q) in
-        let fits = λ (i : ℕ) (l : i < n). (let q : near + i * count ≤ deep = (let part_ends = within own r (path ++ i ∷ []) (led i l) in let all = site_inside in omega (arith, reached i l)) in q) in
-        let small = address_small m words deep g.long g.within near le in
+        let reached = λ (i : ℕ) (l : i < n). (let q : near + i * count + skipped ≡ begin + offset own (path ++ i ∷ []) =
+        omega (arith, behind i l, scaled i) in q) in
+        let fits = λ (i : ℕ) (l : i < n). (let q : near + i * count ≤ size =
+        (let part_ends = within own r (path ++ i ∷ []) (led i l) in omega (arith, reached i l)) in q) in
         let beside : c.held ++ old ∷ [] ≡ gone ++ int z ∷ ((vs ++ more) ++ old ∷ []) = ap (λ l. l ++ old ∷ []) eq ∙ append_assoc gone (int z ∷ (vs ++ more)) (old ∷ []) in
         let stands = held_word m c calls w words gone ((vs ++ more) ++ old ∷ []) (int z) first hg refl (subst (λ l. Good m (hold c l ∷ calls) w words) beside g) in
         later m {lo = lo} {hi = 0} {b = b} (omega arith) (omega arith) (omega arith)
         (turned m {lo1 = suc (12 + lo)} (omega arith)
-        (index_follows m p ws env (λ i. Meaning.settle_steps ws env (steps_with steps vs) var (path ++ i ∷ []) k) w (numbers (c ∷ calls)) words deep there (temp (slots_of m.program c.func) first) n count near pc (12 + lo) 0 b g.long g.within has.0.0 stops
-        (address_word c calls w words c.held [] (slot_address m deep near) at ha small (subst (λ l. Good m (hold c l ∷ calls) w words) (sym (append-nil (c.held ++ old ∷ []))) g)) le fits (λ i l.
-        indexed steps vs (gone ++ int z ∷ []) more r (path ++ i ∷ []) (first + 1) (near + i * count) skipped (pc + 1) (slice_set words there (slot_address m deep (near + i * count))) shape given.1
+        (index_follows m p ws env (λ i. Meaning.settle_steps ws env (steps_with steps vs) var (path ++ i ∷ []) k) w
+        (numbers (c ∷ calls)) words origin size address_slot (temp (slots_of m.program c.func) first) n count near pc
+        (12 + lo) 0 b some_origin small has.0.0 stops
+        (address_word c calls w words c.held [] (origin + near) at ha (omega arith)
+        (subst (λ l. Good m (hold c l ∷ calls) w words) (sym (append-nil (c.held ++ old ∷ []))) g)) le fits (λ i l.
+        indexed steps vs (gone ++ int z ∷ []) more r (path ++ i ∷ []) (first + 1) (near + i * count) skipped (pc + 1)
+        (slice_set words address_slot (origin + (near + i * count))) shape given.1
         (eq ∙ sym (append_assoc gone (int z ∷ []) (vs ++ more))) (one_more gone (int z) first 1 hg refl) room (led i l) (reached i l) (fits i l)
         (subst (λ u. Standing m.code c.fn (pc + 1) (index_code (slots_of m.program c.func) u steps (first + 1) at)) first_type has.1)
-        (address_set c calls w words (slot_address m deep (near + i * count)) at ha room (address_small m words deep g.long g.within (near + i * count) (fits i l)) (fewer m c calls w words c.held (old ∷ []) g))
+        (address_set c calls w words (origin + (near + i * count)) at ha room (let f = fits i l in omega arith)
+        (fewer m c calls w words c.held (old ∷ []) g))
         (λ path1 near1 words1 leads1 le1 at_part1 g1.
         let rest : offset t (0 ∷ path_of steps) ≡ offset r (path_of steps) = (let q = ap (λ u. offset u (path_of steps)) first_type in omega (arith, none, q)) in
         place_is m (let q : pc + suc (index_count steps) ≡ pc + 1 + index_count steps = omega arith in q) (post path1 near1 words1 leads1 le1 (omega (arith, at_part1, rest)) g1))) z stands.0))
 
-    -- from the beginning of the variable
+  -- of a variable of a site, from its beginning
+  module _ (c : Frame) (calls : List Frame) (ws : Ways) (stops : Panics ws) (env : Env) (var : ℕ) (k : Then Spot) (w : World)
+      (site : ℕ) (from : c.func.first ≤ site) (to : site < c.func.first + c.func.count) (s : TypeTree) (at lo b : ℕ)
+      (ha : wide_of c.held ≡ at) where
+    abbrev own : TypeTree
+    own = site_type m.program site
+
+    abbrev slot : ℕ
+    slot = site_slot (slots_of m.program c.func) site
+
+    abbrev deep : ℕ
+    deep = depth m (c ∷ calls)
+
+    abbrev site_temp : ℕ
+    site_temp = temp (slots_of m.program c.func) at
+
+    site_inside : slot + width own ≤ deep
+    site_inside = let r = site_within m.program c.func site from to in omega arith
+
     started : (steps : Steps) (vs gone more : List Value) (t : TypeTree) (path : List ℕ) (first front pc : ℕ) (words : List ℕ) → Shaped t steps s → Operands steps vs → c.held ≡ gone ++ (vs ++ more) → wide_of gone ≡ first → at + steps_far steps ≤ temps_of m.program c.func → Leads own path t
         → front ≡ slot + offset own path → Standing m.code c.fn pc (steps_address (slots_of m.program c.func) front t steps first at) → Good m (c ∷ calls) w words
         → ((path1 : List ℕ) (word : ℕ) (words1 : List ℕ) → Leads own path1 s → PartFrom c calls site (steps_far steps) t steps path path1 word → Good m (hold c (c.held ++ held_by (steps_far steps) word) ∷ calls) w words1
-        → At m (numbers (c ∷ calls)) (12 + lo) 1 b (k (spot_at path1) w) (pc + steps_address_size steps) words1 w)
+        → At m (numbers (c ∷ calls)) (12 + lo) 1 b (k (record { variable = var; path = path1 }) w)
+        (pc + steps_address_size steps) words1 w)
         → At m (numbers (c ∷ calls)) (suc (12 + lo)) 1 b (Meaning.settle_steps ws env (steps_with steps vs) var path k w) pc words w
     started itself vs gone more t path first front pc words shape given e hg room leads begins has g post =
         later m {lo = 12 + lo} {hi = 1} {b = b} (omega arith) (omega arith) (omega arith)
@@ -218,8 +239,12 @@ module _ (m : Built) where
         let ends = within own t path leads in let all = site_inside in
         let le : front ≤ deep = omega arith in
         let small = address_small m words deep g.long g.within front le in
-        addressed m w (numbers (c ∷ calls)) words deep pc (12 + lo) 0 b _ g.long g.within there front has.0.0 le
-        (indexed (at_index p e n steps) vs gone more t path first front 0 (pc + 1) (slice_set words there (slot_address m deep front)) (r, is, some, shape) given eq hg (omega arith) leads (omega arith) le has.1
+        addressed m w (numbers (c ∷ calls)) words deep pc (12 + lo) 0 b _ g.long g.within site_temp front has.0.0 le
+        (indexed c calls ws stops env var k w (address_of m.max deep) deep (origin_is m words deep g.long g.within)
+        (address_small m words deep g.long g.within deep (omega arith)) own slot site_inside s at lo b ha
+        (at_index p e n steps) vs gone more t path first front 0 (pc + 1)
+        (slice_set words site_temp (slot_address m deep front)) (r, is, some, shape) given eq hg (omega arith) leads
+        (omega arith) le has.1
         (address_set c calls w words (slot_address m deep front) at ha (omega arith) small g)
         (λ path1 near1 words1 leads1 le1 at_part1 g1.
         place_is m (let q : pc + suc (suc (index_count steps)) ≡ pc + 1 + suc (index_count steps) = omega arith in q)
@@ -235,13 +260,19 @@ module _ (m : Built) where
       turned m {lo1 = suc (12 + lo)} (omega arith)
       (started c calls ws stops env (env0 site) k w site among.0 among.1 t at lo b ha steps vs gone more (site_type m.program site) [] first (site_slot (slots_of m.program c.func) site) pc words fit.1 given e hg room refl none has g
       (λ path word words1 leads part g1. post path word words1 (leads, part) g1))
-  settled_follow (global g0 itself) t vs gone more c calls ws env env0 k w words first at pc lo b stops fit given e hg ha room has g post =
-      let few = m.few in let address = global_address g0 in
+  settled_follow (global g0 steps) t vs gone more c calls ws env env0 k w words first at pc lo b stops fit given e hg ha room has g post =
+      let s = slots_of m.program c.func in let own = global_type m.program g0 in let from = words_before m.program g0 in
+      let few = m.few in let inside = words_within m.program g0 fit.0 in let word = first_address + from in
       turned m {lo1 = suc (12 + lo)} (omega arith)
-      (stepped m {lo = 12 + lo} {hi = 1} (Const (temp (slots_of m.program c.func) at) address) has.0.0 (λ heap. refl)
-      (post [] address (slice_set words (temp (slots_of m.program c.func) at) address) (refl, refl) (address_set c calls w words address at ha (omega arith) (omega arith) g)))
-  settled_follow (global g0 (inner i steps)) t vs gone more c calls ws env env0 k w words first at pc lo b stops fit given e hg ha room has g post = absurd fit
-  settled_follow (global g0 (at_index p x n steps)) t vs gone more c calls ws env env0 k w words first at pc lo b stops fit given e hg ha room has g post = absurd fit
+      (stepped m {lo = 12 + lo} {hi = 0} (Const (temp s at) word) has.0.0 (λ heap. refl)
+      (indexed c calls ws stops env g0 k w first_address (all_words m.program) (omega arith)
+      (omega arith) own from inside t at lo b ha steps vs gone more own [] first from 0 (pc + 1)
+      (slice_set words (temp s at) word) fit.1 given e hg (omega arith) refl (omega arith) (omega arith)
+      (subst (λ u. Standing m.code c.fn (pc + 1) (index_code s u steps first at)) (type_is m.program c.func g0) has.1)
+      (address_set c calls w words word at ha (omega arith) (omega arith) g)
+      (λ path1 near1 words1 leads1 le1 part1 g1.
+      place_is m (let q : pc + suc (index_count steps) ≡ pc + 1 + index_count steps = omega arith in q)
+      (post path1 (first_address + near1) words1 (leads1, (near1, refl, le1, omega (arith, part1))) g1))))
 
   -- the address of a place that is held, as a word
   abbrev pub AddressAt : Frame → Pl → (at word : ℕ) → List ℕ → Type 0
@@ -253,9 +284,9 @@ module _ (m : Built) where
       by : (f : ℕ) → f ≡ suc n → PartFrom c calls site f (site_type m.program site) steps [] path word → Good m (hold c ((held ++ held_by f word) ++ more) ∷ calls) w words → slice_index words (temp (slots_of m.program c.func) at) ≡ word
       by zero e p g = absurd (omega arith)
       by (suc f) e (near, is, le, rest) g = let small = address_small m words (depth m (c ∷ calls)) g.long g.within near le in address_word c calls w words held more word at ha (omega (arith, is)) g
-  address_at (global g0 itself) t c calls w words path held more at word fit part ha g n reached = let few = m.few in address_word c calls w words held more word at ha (let is = part.1 in omega arith) g
-  address_at (global g0 (inner i steps)) t c calls w words path held more at word fit part ha g n reached = absurd fit
-  address_at (global g0 (at_index p x y steps)) t c calls w words path held more at word fit part ha g n reached = absurd fit
+  address_at (global g0 steps) t c calls w words path held more at word fit
+      (leads, (near, is, le, rest)) ha g n reached = let few = m.few in
+      address_word c calls w words held more word at ha (omega (arith, is)) g
 
   -- ---- what a place has, and what it gets
 
@@ -312,17 +343,21 @@ module _ (m : Built) where
               (parts.read j (omega (arith, count))) (read_index words from (width t) j (omega (arith, count)) ∙ ap (slice_index words) q)
               (site_word m (hold c base) calls w words v (offset own path + j) fit.0 (omega (arith, count, old)) g0);
         }) g0))
-    fetched (global q (inner i steps)) t path word base gone w words running at h pc lo hi b rest here fit part there hh room g post = absurd fit
-    fetched (global q (at_index p x n steps)) t path word base gone w words running at h pc lo hi b rest here fit part there hh room g post = absurd fit
-    fetched (global q itself) t path word base gone w words running at h pc lo hi b rest here fit part there hh room g post =
-        let s = slots_of m.program c.func in let x = value_of w q in
-        let g0 = fewer m c calls w words base gone g in let long = g.long in
-        let one = plain_value (global_type m.program q) x (m.plain q fit.0) (g.kinds q fit.0) in
-        let single = plain_one (global_type m.program q) (m.plain q fit.0) in let same = ap width fit.1 in
-        let typed : IsOf t x = subst (λ u. IsOf u x) fit.1 (g.kinds q fit.0) in
-        loaded m q (temp s h) (temp s at) w words running pc lo hi b rest here fit.0 (omega arith) (there 0 refl ∙ part.1) (λ y stands.
-        post (slice_set words (temp s h) y) (subst (λ p. IsOf t (at_path x p)) (sym part.0) typed)
-        (subst (λ p. Good m (hold c (base ++ at_path x p ∷ []) ∷ calls) w (slice_set words (temp s h) y)) (sym part.0) (temp_set m (hold c base) calls w words h y x hh (omega arith) one stands g0)))
+    fetched (global q steps) t path word base gone w words running at h pc lo hi b rest here fit
+        (leads, (near, is, le, behind)) there hh room g post =
+        let s = slots_of m.program c.func in let own = global_type m.program q in
+        let whole = value_of w q in let x = at_path whole path in
+        let g0 = fewer m c calls w words base gone g in
+        let typed = at_is own t whole path (g.kinds q fit.0) leads in
+        loaded m w q path t fit.0 (g.kinds q fit.0) leads words running pc lo hi b rest (temp s at)
+        (offset own (path_of steps)) near (there 0 refl ∙ is) behind (temp s h)
+        (subst (λ u. slice_get m.code.instrs pc ≡ Some (Load (temp s h) (temp s at) (offset own (path_of steps)) (width u)))
+        (leads_to own t (path_of steps) (shaped_leads own t steps fit.1))
+        (subst (λ u. slice_get m.code.instrs pc ≡ Some
+        (Load (temp s h) (temp s at) (offset u (path_of steps)) (width (type_at u (path_of steps)))))
+        (type_is m.program c.func q) here)) (λ xs stands.
+        post (put_words words (temp s h) xs) typed
+        (value_put m (hold c base) calls w words xs h (width t) x hh (count_of t x typed) room stands g0))
 
     -- a place gets the value in temps from h on
     pub landed : (q : Pl) (t : TypeTree) (path : List ℕ) (word : ℕ) (gone more : List Value) (x : Value) (w : World) (words running : List ℕ) (at h pc lo hi b : ℕ) (rest : Trace) → slice_get m.code.instrs pc ≡ Some (land_code (slots_of m.program c.func) q at h) → Located c.scope t q → PlaceIn c calls t q path word → AddressAt c q at word words
@@ -342,14 +377,16 @@ module _ (m : Built) where
         part_landed (steps_far steps) v steps t path w words running at h word pc lo hi b rest here (leads_to own t (path_of steps) (shaped_leads own t steps fit.1)) fit.2 part.1 there (omega arith) (omega arith) g.long g.within
         (written_kept m (c.env v) path x (omega arith)
         (post (put_words words to xs) (written_site m c calls w words x v path t xs fit.0 part.0 (held_stand m c calls w words gone more x h (width t) hg count held) typed g)))
-    landed (global q (inner i steps)) t path word gone more x w words running at h pc lo hi b rest here fit part there e hg typed g post = absurd fit
-    landed (global q (at_index p y n steps)) t path word gone more x w words running at h pc lo hi b rest here fit part there e hg typed g post = absurd fit
-    landed (global q itself) t path word gone more x w words running at h pc lo hi b rest here fit part there e hg typed g post =
-        let s = slots_of m.program c.func in
-        let own_typed = subst (λ u. IsOf u x) (sym fit.1) typed in
-        let one = plain_value (global_type m.program q) x (m.plain q fit.0) own_typed in
+    landed (global q steps) t path word gone more x w words running at h pc lo hi b rest here fit
+        (leads, (near, is, le, behind)) there e hg typed g post =
+        let s = slots_of m.program c.func in let own = global_type m.program q in
         let held = subst (λ l. Good m (hold c l ∷ calls) w words) e g in
-        let stands = held_word m c calls w words gone more x h hg one held in
-        let room = held_room m c calls w words gone more x h 1 hg one held in
-        stored m q (temp s at) (temp s h) w words running x pc lo hi b rest here fit.0 (omega arith) g.many (there 0 refl ∙ part.1) stands
-        (subst (λ p. At m running lo hi b rest (pc + 1) words (written w q p x)) part.0 (post words (subst (λ p. Good m (c ∷ calls) (written w q p x) words) (sym part.0) (written_global m (c ∷ calls) w words x q fit.0 own_typed g))))
+        let stands = held_stand m c calls w words gone more x h (width t) hg (count_of t x typed) held in
+        stored m w q path t fit.0 (g.kinds q fit.0) leads words running pc lo hi b rest (temp s at)
+        (offset own (path_of steps)) near (there 0 refl ∙ is) behind (temp s h) x
+        (subst (λ u. slice_get m.code.instrs pc ≡ Some (Store (temp s at) (offset own (path_of steps)) (temp s h) (width u)))
+        (leads_to own t (path_of steps) (shaped_leads own t steps fit.1))
+        (subst (λ u. slice_get m.code.instrs pc ≡ Some
+        (Store (temp s at) (offset u (path_of steps)) (temp s h) (width (type_at u (path_of steps)))))
+        (type_is m.program c.func q) here)) g.many typed stands
+        (post words (written_global m (c ∷ calls) w words x q path t fit.0 leads typed g))

@@ -8,7 +8,7 @@ use Rattle.typed_syntax.specs.Value.{Value, int, bool, IsOf}
 use Rattle.typed_syntax.specs.Syntax.{Ex, Exs, Pl, Left, Piece, none, more, results, read_int, text, shown, declare, assign, update, bump, discard, break_stmt, continue_stmt, return_stmt, print, panic, exit, argument_words, site_type, all_wide, value_widths}
 use Rattle.typed_syntax.specs.Types.{TypeTree, ints, bools, width, struct_of, array_of}
 use Rattle.simulated_code.proofs.Numbers.{arithmetic_takes, no_struct, no_array, step_takes}
-use Rattle.typed_syntax.specs.Form.{IsPlain, AreOf, Takes, PlFits, new_sites, scope_behind, ExsFit, ReturnFits}
+use Rattle.typed_syntax.specs.Form.{IsPlain, AreOf, Takes, new_sites, scope_behind, ExsFit, ReturnFits}
 use Rattle.typed_syntax.specs.Frames.{far, lefts_far, behind_values, need, need_all, reach, reach_all, temps_of}
 use Rattle.meaning.specs.Trace.{World, Trace, Exit, Panic, raised, raised_text, exit_code}
 use Rattle.meaning.specs.Store.{value_of, written}

@@ -1,7 +1,8 @@
 -- What the code of a program does, against what the program means.
-use Rattle.std.specs.Prelude.{◌≡◌, ⊤, ℕ, ◌*◌, ◌^◌, ◌≤◌, List, [], ◌∷◌, length, replicate, get_or, slice_get, Option, Some, None, nat_le, if◌then◌else◌, IfSome, FitsSigned}
+use Rattle.std.specs.Prelude.{◌≡◌, ⊤, ℕ, ◌+◌, ◌*◌, ◌^◌, ◌≤◌, List, [], ◌∷◌, ◌++◌, length, replicate, get_or, slice_get, Option, Some, None, nat_le, if◌then◌else◌, IfSome, FitsSigned}
 use Rattle.std.specs.Int.{w64}
 use Rattle.typed_syntax.specs.Value.{Value, int, bool}
+use Rattle.typed_syntax.specs.Words.{words_of}
 use Rattle.typed_syntax.specs.Syntax.{Program}
 use Rattle.typed_syntax.specs.Frames.{frame_words}
 use Rattle.typed_syntax.specs.Placement.{on_heap}
@@ -18,7 +19,7 @@ use Rattle.machine.specs.declared.run_state.Ending.{Ending as Stop}
 use Rattle.machine.specs.declared.run_state.Ending.TheVariants as Machine
 use Rattle.machine.specs.declared.run_state.Panic.{Panic as MachinePanic}
 use Rattle.machine.specs.declared.run_state.Panic.TheVariants as machine_panic
-use Rattle.program_code.specs.Code.{word_of, code_of}
+use Rattle.program_code.specs.Code.{code_of}
 use Rattle.typed_syntax.specs.Form.{IsInForm}
 
 abbrev pub same_event : Sight → Event → Type 0
@@ -51,10 +52,10 @@ same_end strings e f = ⊥
 abbrev pub limits : Program → (stack_max heap_max : ℕ) → Limits
 limits p stack_max heap_max = record { frame = frame_words p; on_heap = on_heap p; stack_max = stack_max; heap_max = heap_max }
 
--- the words that package variables begin with
-abbrev pub first_words : List (ℕ × Value) → List ℕ
+-- the words that each package variable begins with
+abbrev pub first_words : List (ℕ × Value) → List (List ℕ)
 first_words [] = []
-first_words (g ∷ gs) = word_of g.1 ∷ first_words gs
+first_words (g ∷ gs) = words_of g.1 ∷ first_words gs
 
 -- a function is entered, with no words of the stack in use before, and with a heap
 abbrev pub first_state : Entry → Words → State
@@ -65,13 +66,18 @@ entered code items stack_max heap None k = Unfinished
 entered code items stack_max heap (Some f) k =
     if nat_le f.frame stack_max then exec (act code stack_max items) k (first_state f heap) else Ends (Machine.StackLimit 0 f.frame stack_max)
 
+-- The package variables come first: each takes the words that it begins with after those that were taken, and the first that has no room
+-- finds the heap full. What follows is told the words of all.
+abbrev pub begun : (max : ℕ) → (heap : List ℕ) → List (List ℕ) → (List ℕ → Outcome Event Stop) → Outcome Event Stop
+begun max heap [] follow = follow heap
+begun max heap (words ∷ more) follow =
+    if nat_le (length heap + length words) max then begun max (heap ++ words) more follow else Ends (Machine.HeapLimit (length heap) (length words) max)
+
 -- What the code shows in at most k instructions from the entry of the function `main`, where these are the items of the
--- input, and the stack has at most stack_max and the heap at most heap_max words. The package variables come first: each takes a word of the
--- heap, so the first that has no room finds the heap full.
-abbrev pub target : Tables → (ℕ → Item) → (globals : List ℕ) → (main stack_max heap_max : ℕ) → ℕ → Outcome Event Stop
+-- input, and the stack has at most stack_max and the heap at most heap_max words
+abbrev pub target : Tables → (ℕ → Item) → (globals : List (List ℕ)) → (main stack_max heap_max : ℕ) → ℕ → Outcome Event Stop
 target code items globals main stack_max heap_max k =
-    if nat_le (length globals) heap_max then entered code items stack_max (record { words = globals; max = heap_max }) (slice_get code.funcs main) k
-    else Ends (Machine.HeapLimit heap_max 1 heap_max)
+    begun heap_max [] globals (λ heap. entered code items stack_max (record { words = heap; max = heap_max }) (slice_get code.funcs main) k)
 
 -- The machine holds a stack and a heap of at most 2 ^ 32 words each, so that addresses tell them apart. A turn is 1 to 16
 -- instructions: what n turns show is shown by 16 * n instructions, and what k instructions show is

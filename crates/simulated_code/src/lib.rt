@@ -8,8 +8,10 @@
 //!
 //! 1. *The state relation.* `Frames` says what the words of the stack stand for: a list of running calls, each with its
 //!    variables, the sites in scope and the values that its temps hold (`Stack`, `Good`), counted by the distance from
-//!    the stack's upper end (`Distances`), so that nothing moves as calls come and go. `Globals` says the same of the
-//!    words of the heap. `Changes` and `Composites` say how a write, a birth, a call and a return change what is held.
+//!    the stack's upper end (`Distances`), so that nothing moves as calls come and go. `Places` says the same of the heap
+//!    (`Heaps`), where the words of one package variable stand after those of another (`PackageWords`). `Changes` and
+//!    `Composites` say how a write, a birth, a call and a return change what is held, and `Globals` how reads and writes
+//!    of package variables do what they should to the heap.
 //! 2. *The rules.* The meaning is in continuation form, so each lemma has the shape: if what goes on is followed from the
 //!    place after the form's code, then the form is followed from its own place. `Places` joins this shape (`At`) with the
 //!    rules of `simulation` for a step, a turn and an end; `Crossing` has those of a call and of a return.

@@ -32,12 +32,13 @@ fn is_inside(code: &Code, long: usize, at: RunState) -> bool
     f < funcs.len() && at.base + funcs[f].frame as usize <= long
 }
 
-/// Runs `steps` steps from a place, with an empty heap, and with nothing to read.
-pub(crate) fn run_from(
+/// Runs `steps` steps from a place, with this heap, and with nothing to read.
+pub(crate) fn run_on(
     rt: &impl Abort,
     alloc: Global,
     code: &Code,
     words: &mut Vec<u64>,
+    heap: &mut Heap,
     at: RunState,
     steps: u64,
     out: &mut MemSink,
@@ -47,19 +48,32 @@ pub(crate) fn run_from(
     assert!(rt; is_inside(code, words.len(), at));
     let mut reader = IntReader::new();
     let mut input = MemSource::new(Vec::new(alloc), Vec::new(alloc));
-    let mut heap = Heap::new(alloc, 0);
     run(
         alloc,
         code,
         words,
         MOST,
-        &mut heap,
+        heap,
         at,
         &mut reader,
         &mut input,
         out,
         steps,
     )
+}
+
+/// The same with an empty heap.
+pub(crate) fn run_from(
+    rt: &impl Abort,
+    alloc: Global,
+    code: &Code,
+    words: &mut Vec<u64>,
+    at: RunState,
+    steps: u64,
+    out: &mut MemSink,
+) -> Next {
+    let mut heap = Heap::new(alloc, 0);
+    run_on(rt, alloc, code, words, &mut heap, at, steps, out)
 }
 
 /// A code whose run is stopped and goes on.

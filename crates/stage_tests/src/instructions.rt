@@ -1,12 +1,12 @@
 //! Steps of instructions that no program has yet, and touches of memory that no program makes, each at the start of the only
 //! function of a code.
 ghost use Rattle.std.specs.Prelude.{◌≡◌, ◌+◌, ◌≤◌, [], ◌∷◌, IsTrue};
-ghost use Rattle.isa.specs.Code.{Fits};
+ghost use Rattle.isa.specs.Code.{AddedFits, Fits};
 ghost use Rattle.isa.specs.declared.func.Func.{Func};
 
 use crate::back_end::{END, run_from};
 use heap_bump::HEAP_LOW;
-use isa::{Code, Func, Instr};
+use isa::{Added, Code, Func, Instr};
 use machine::{Ending, Panic, RunState};
 use outside::MemSink;
 use std::alloc::{AllocError, Global};
@@ -14,7 +14,7 @@ use std::process::Abort;
 use std::test::Fail;
 
 /// The slots of the function, which has three incoming words.
-const SLOTS: usize = 7;
+pub(crate) const SLOTS: usize = 7;
 
 fn func() -> Func
     ensures { result ≡ record { frame = 9; arguments = 2; results = 1; start = 0 } }
@@ -34,8 +34,18 @@ fn are_slots(a: u16, n: u16) -> bool
     a as usize + n as usize <= SLOTS
 }
 
+/// Whether what an append adds has room in the slots.
+fn are_added(added: Added, c: u16, d: u16, w: u16) -> bool
+    ensures { IsTrue result → AddedFits 7 added c d w }
+{
+    match added {
+        Added::Slots => c as usize + d as usize * w as usize <= SLOTS,
+        Added::Slice => are_slots(c, 3) && d == 0,
+    }
+}
+
 /// Whether an instruction may stand there; of those that are tried here.
-fn fits(instr: Instr) -> bool
+pub(crate) fn fits(instr: Instr) -> bool
     ensures { IsTrue result → let fn : Func = record { frame = 9; arguments = 2; results = 1; start = 0 } in Fits (0 ∷ (0 ∷ [])) (fn ∷ []) 0 0 0 7 3 instr }
 {
     match instr {
@@ -49,13 +59,39 @@ fn fits(instr: Instr) -> bool
         Instr::Address { a, b } | Instr::Offset { a, b, .. } => are_slots(a, 1) && are_slots(b, 1),
         Instr::Load { a, b, n, .. } => n >= 1 && are_slots(a, n) && are_slots(b, 1),
         Instr::Store { a, c, n, .. } => n >= 1 && are_slots(a, 1) && are_slots(c, n),
+        Instr::SliceIndex { a, b, c, w } => {
+            w >= 1 && are_slots(a, 1) && are_slots(b, 3) && are_slots(c, 1)
+        }
+        Instr::Slice { a, b, c, w } => {
+            w >= 1 && are_slots(a, 3) && are_slots(b, 3) && are_slots(c, 2)
+        }
+        Instr::Born { a, n, .. } => are_slots(a, n),
+        Instr::Alloc { a, .. } => are_slots(a, 1),
+        Instr::Make { a, w, .. } => w >= 1 && are_slots(a, 3),
+        Instr::Append {
+            added,
+            a,
+            b,
+            c,
+            d,
+            w,
+            ..
+        } => { w >= 1 && are_slots(a, 3) && are_slots(b, 3) && are_added(added, c, d, w) }
+        Instr::Copy { a, b, c, w } => {
+            w >= 1 && are_slots(a, 1) && are_slots(b, 3) && are_slots(c, 3)
+        }
+        Instr::Const { a, .. } => are_slots(a, 1),
+        Instr::Bin { a, b, c, .. } => are_slots(a, 1) && are_slots(b, 1) && are_slots(c, 1),
+        Instr::Index { a, b, c, len, w } => {
+            len >= 1 && w >= 1 && are_slots(a, 1) && are_slots(b, 1) && are_slots(c, 1)
+        }
         _ => false,
     }
 }
 
 /// A code of an instruction and a return.
 #[tactic(auto, using(crate::proofs::Alone::alone))]
-fn code_with(alloc: Global, instr: Instr) -> Result<Code, AllocError>
+pub(crate) fn code_with(alloc: Global, instr: Instr) -> Result<Code, AllocError>
     requires { let fn : Func = record { frame = 9; arguments = 2; results = 1; start = 0 } in Fits (0 ∷ (0 ∷ [])) (fn ∷ []) 0 0 0 7 3 instr }
 {
     let instrs = vec![in alloc; instr, Instr::Return]?;
@@ -65,7 +101,11 @@ fn code_with(alloc: Global, instr: Instr) -> Result<Code, AllocError>
 }
 
 /// The slots, the link and the return place, and the incoming words, of which some may be missing.
-fn stack(alloc: Global, slots: [u64; SLOTS], incoming: &[u64]) -> Result<Vec<u64>, AllocError> {
+pub(crate) fn stack(
+    alloc: Global,
+    slots: [u64; SLOTS],
+    incoming: &[u64],
+) -> Result<Vec<u64>, AllocError> {
     let mut words = Vec::new(alloc);
     words.extend_from_slice(&slots)?;
     words.extend_from_slice(&[0, 0])?;
@@ -76,14 +116,14 @@ fn stack(alloc: Global, slots: [u64; SLOTS], incoming: &[u64]) -> Result<Vec<u64
 /// The slots before each instruction, and the address of the lowest one, where all incoming words are there.
 const BEFORE: [u64; SLOTS] = [10, 20, 30, 20, 30, 0, u64::MAX];
 
-const LOW: u64 = END - 12;
+pub(crate) const LOW: u64 = END - 12;
 
 /// The slots before a touch of memory: the address of the lowest one, the one below it, that of the second incoming word, and the
 /// heap's first one.
 const ADDRESSES: [u64; SLOTS] = [10, 20, 0, LOW, LOW - 1, END - 2, HEAP_LOW];
 
 /// The first slots after an instruction; the others keep their words.
-fn slots_after(before: [u64; SLOTS], first: &[u64]) -> [u64; SLOTS] {
+pub(crate) fn slots_after(before: [u64; SLOTS], first: &[u64]) -> [u64; SLOTS] {
     let mut slots = before;
     for (slot, word) in slots.iter_mut().zip(first.iter()) {
         *slot = *word;

@@ -14,8 +14,12 @@ mod compiling;
 #[cfg(test)]
 mod instructions;
 #[cfg(test)]
+mod package_words;
+#[cfg(test)]
 mod parser;
 #[cfg(test)]
 mod programs;
+#[cfg(test)]
+mod slice_steps;
 #[cfg(test)]
 mod trees;

@@ -6,7 +6,7 @@ use Rattle.typed_syntax.specs.declared.operators.BinOp.TheVariants.{Add, Sub, Eq
 use Rattle.typed_syntax.specs.declared.operators.UnOp.{UnOp}
 use Rattle.typed_syntax.specs.declared.operators.UnOp.TheVariants.{Not}
 use Rattle.typed_syntax.specs.Types.{TypeTree, ints, bools, array_of, width, part_count, part_type}
-use Rattle.typed_syntax.specs.Value.{Value, int, bool, composite, IsOf}
+use Rattle.typed_syntax.specs.Value.{Value, int, bool, composite, IsOf, FitsWords}
 use Rattle.typed_syntax.specs.Syntax.{Ex, Exs, Pl, Left, Piece, Over, St, Sts, Func, Program, constant, read, unary, binary, logical_and, logical_or, call, part_of, literal, Elements, no_elements, element, local, global, none, more, results, read_int, blank, new, to, text, shown, over_int, over_length, over_copy, declare, assign, update, bump, discard, block, if_stmt, for_stmt, range, break_stmt, continue_stmt, return_stmt, print, panic, exit, done, next, Steps, here, inner, at_index, argument_words, result_words, type_named, site_type, global_type}
 
 -- ---- types
@@ -162,9 +162,7 @@ module _ (p : Program) where
     -- a place whose part is of a type, which has a word at least
     pub PlFits : List ℕ → TypeTree → Pl → Type 0
     PlFits scope t (local site steps) = InScope site scope × StepsLead scope (site_type p site) steps t × (0 < width t)
-    PlFits scope t (global g here) = (g < length p.globals) × (global_type p g ≡ t)
-    PlFits scope t (global g (inner i steps)) = ⊥
-    PlFits scope t (global g (at_index at e n steps)) = ⊥
+    PlFits scope t (global g steps) = (g < length p.globals) × StepsLead scope (global_type p g) steps t × (0 < width t)
 
     -- steps lead from values of a type to parts of a type
     pub StepsLead : List ℕ → TypeTree → Steps → TypeTree → Type 0
@@ -298,8 +296,7 @@ pub record FuncFits (p : Program) (f : Func) : Type 0 where
 
 -- package variables: each begins with a value of its type, and its site is none of a function
 pub record GlobalFits (p : Program) (g : ℕ × Value) : Type 0 where
-  pub value : IsOf (site_type p g.0) g.1 × IsWord g.1
-  pub plain : IsPlain (site_type p g.0)
+  pub value : IsOf (site_type p g.0) g.1 × FitsWords g.1
   pub apart : (f : ℕ) (func : Func) → slice_get p.funcs f ≡ Some func → (g.0 < func.first) ⊎ (func.first + func.count ≤ g.0)
 
 -- each function fits; `main` is one without parameters and results; there are at most 4,096; each variable has a word at

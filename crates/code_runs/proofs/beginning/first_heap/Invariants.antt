@@ -1,11 +1,14 @@
-use Rattle.std.proofs.Common.{◌≡◌, ◌≤◌, ◌++◌, drop, length, map}
-use Rattle.typed.specs.declared.program.PackageVariable.{PackageVariable}
-use Rattle.code_runs.specs.Runs.{begun_word}
+use Rattle.std.proofs.Common.{◌≡◌, List, [], ℕ, drop, map}
+use Rattle.machine.specs.Machine.{Event}
+use Rattle.machine.specs.declared.run_state.Ending.{Ending}
+use Rattle.simulation.specs.Outcome.{Outcome}
+use Rattle.typed.specs.View.{global_of}
+use Rattle.expression_code.specs.Frame.{sites_in}
+use Rattle.simulated_code.specs.Correct.{begun, first_words}
 use Rattle.code_runs.proofs.beginning.first_heap.Given as goal
 
 abbrev pub invariant-loop-global : goal.invariant-loop-global
 invariant-loop-global l =
-    (l.heap.words ++ map (λ (g : PackageVariable). begun_word g.value) (drop l.global-index l.globals) ≡ map (λ (g : PackageVariable). begun_word g.value) l.globals)
-    × (l.heap.max ≡ l.heap_max)
-    × (length l.heap.words ≡ l.global-index)
-    × (length l.heap.words ≤ l.heap_max)
+    (l.heap.max ≡ l.heap_max)
+    × ((follow : List ℕ → Outcome Event Ending) → begun l.heap_max [] (first_words (map (global_of (sites_in l.program)) l.globals)) follow
+    ≡ begun l.heap_max l.heap.words (first_words (map (global_of (sites_in l.program)) (drop l.global-index l.globals))) follow)

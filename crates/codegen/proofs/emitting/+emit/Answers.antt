@@ -1,10 +1,12 @@
-use Rattle.std.proofs.Common.{◌≡◌, ◌+◌, ◌++◌, length, ap, ◌∙◌, arith}
+use Rattle.std.proofs.Common.{rules, ◌≡◌, ◌+◌, ◌++◌, List, length, sym, ap, subst, ◌∙◌, arith}
 use Rattle.typed.proofs.Rows.{stmt_rows}
-use Rattle.typed_syntax.specs.Syntax.{blank, over_copy, over_int, over_length, if_stmt, for_stmt, range, argument_words, result_words}
+use Rattle.typed_syntax.specs.Syntax.{St, blank, block, over_copy, over_int, over_length, if_stmt, for_stmt, range, argument_words, result_words}
+use Rattle.typed.specs.declared.stmt.Stmt.{Stmt}
 use Rattle.typed.specs.View.{ex_of, left_of, program_of, site_numbers, st_of, sts_of, test_of}
 use Rattle.program_code.specs.Code.{element_round_size, renew_code, renew_size, st_code, sts_code, sts_size, test_size}
 use Rattle.expression_code.specs.Frame.{func_in, slots_in}
 use Rattle.codegen.proofs.Emitted.{next_emitted, next_fits, if_emitted, loop_emitted, count_emitted, indices_emitted, elements_emitted}
+use Rattle.codegen.specs.Temps.{StFitsIn, StsFitIn}
 use Rattle.codegen.proofs.emitting.+emit.Goals as goal
 
 pub emit_stmts-loop-s-preserved : goal.emit_stmts-loop-s-preserved
@@ -91,3 +93,88 @@ emit_stmt-returns-in_ok-emit_turn-in-Elements t c =
     (c.in_ok-emit_stmts-in-Elements.ensures
     ∙ ap (λ x. c.emit_pair.new.code.items ++ sts_code p (argument_words f) f.named slots (sts_of x) (h + 1) g.out g.again (length c.emit_pair.new.code.items)) c.deref-in-Elements-2.ensures.value)
     c.in_ok-emit_turn-in-Elements.ensures)
+
+-- the last of the things that fit a `range` over elements
+last_fits : {A B C D E F G H I J K : Type 0} → A × B × C × D × E × F × G × H × I × J × K → K
+last_fits (a, b, c, d, e, f, g, h, i, j, k) = k
+
+-- what is asked where statements inside are told by a slice
+pub emit_stmt-emit_stmts-requires : goal.emit_stmt-emit_stmts-requires
+emit_stmt-emit_stmts-requires t c =
+    let p = program_of c.args.program.now in let f = func_in c.args.program.now c.args.func.now in let slots = slots_in c.args.program.now c.args.frame.now in
+    let n = c.args.frame.now.sites in let h = c.args.h in
+    let v = c.in-Block in
+    let shape : st_of c.args.s.now ≡ block (sts_of v.ss.items) = grind (arith, stmt_rows) in
+    let fits = subst (λ (x : St). StFitsIn p slots n (result_words f) f.named h x) shape c.requires.fits in
+    let body = subst (λ (xs : List Stmt). StsFitIn p slots n (result_words f) f.named (h) (sts_of xs)) (sym c.deref-in-Block.ensures.value) (fits) in
+    (search (rules, stmt_rows), (body, (c.requires.returns, c.requires.frame)))
+
+pub emit_stmt-emit_stmts-requires-in-If : goal.emit_stmt-emit_stmts-requires-in-If
+emit_stmt-emit_stmts-requires-in-If t c =
+    let p = program_of c.args.program.now in let f = func_in c.args.program.now c.args.func.now in let slots = slots_in c.args.program.now c.args.frame.now in
+    let n = c.args.frame.now.sites in let h = c.args.h in
+    let v = c.in-If in
+    let shape : st_of c.args.s.now ≡ if_stmt (ex_of v.e) (sts_of v.a.items) (sts_of v.b.items) = grind (arith, stmt_rows) in
+    let fits = subst (λ (x : St). StFitsIn p slots n (result_words f) f.named h x) shape c.requires.fits in
+    let body = subst (λ (xs : List Stmt). StsFitIn p slots n (result_words f) f.named (h) (sts_of xs)) (sym c.deref-in-If-3.ensures.value) (fits.2) in
+    (search (rules, stmt_rows), (body, (c.requires.returns, c.requires.frame)))
+
+pub emit_stmt-emit_stmts-requires-in-If-2 : goal.emit_stmt-emit_stmts-requires-in-If-2
+emit_stmt-emit_stmts-requires-in-If-2 t c =
+    let p = program_of c.args.program.now in let f = func_in c.args.program.now c.args.func.now in let slots = slots_in c.args.program.now c.args.frame.now in
+    let n = c.args.frame.now.sites in let h = c.args.h in
+    let v = c.in-If in
+    let shape : st_of c.args.s.now ≡ if_stmt (ex_of v.e) (sts_of v.a.items) (sts_of v.b.items) = grind (arith, stmt_rows) in
+    let fits = subst (λ (x : St). StFitsIn p slots n (result_words f) f.named h x) shape c.requires.fits in
+    let body = subst (λ (xs : List Stmt). StsFitIn p slots n (result_words f) f.named (h) (sts_of xs)) (sym c.deref-in-If-4.ensures.value) (fits.3) in
+    (search (rules, stmt_rows), (body, (c.requires.returns, c.requires.frame)))
+
+pub emit_stmt-emit_stmts-requires-in-For : goal.emit_stmt-emit_stmts-requires-in-For
+emit_stmt-emit_stmts-requires-in-For t c =
+    let p = program_of c.args.program.now in let f = func_in c.args.program.now c.args.func.now in let slots = slots_in c.args.program.now c.args.frame.now in
+    let n = c.args.frame.now.sites in let h = c.args.h in
+    let v = c.in-For in
+    let shape : st_of c.args.s.now ≡ for_stmt (site_numbers v.sites.items) (test_of v.test) (sts_of v.post.items) (sts_of v.body.items) = grind (arith, stmt_rows) in
+    let fits = subst (λ (x : St). StFitsIn p slots n (result_words f) f.named h x) shape c.requires.fits in
+    let body = subst (λ (xs : List Stmt). StsFitIn p slots n (result_words f) f.named (h) (sts_of xs)) (sym c.deref-in-For-4.ensures.value) (fits.4) in
+    (search (rules, stmt_rows), (body, (c.requires.returns, c.requires.frame)))
+
+pub emit_stmt-emit_stmts-requires-in-For-2 : goal.emit_stmt-emit_stmts-requires-in-For-2
+emit_stmt-emit_stmts-requires-in-For-2 t c =
+    let p = program_of c.args.program.now in let f = func_in c.args.program.now c.args.func.now in let slots = slots_in c.args.program.now c.args.frame.now in
+    let n = c.args.frame.now.sites in let h = c.args.h in
+    let v = c.in-For in
+    let shape : st_of c.args.s.now ≡ for_stmt (site_numbers v.sites.items) (test_of v.test) (sts_of v.post.items) (sts_of v.body.items) = grind (arith, stmt_rows) in
+    let fits = subst (λ (x : St). StFitsIn p slots n (result_words f) f.named h x) shape c.requires.fits in
+    let body = subst (λ (xs : List Stmt). StsFitIn p slots n (result_words f) f.named (h) (sts_of xs)) (sym c.deref-in-For-6.ensures.value) (fits.3) in
+    (search (rules, stmt_rows), (body, (c.requires.returns, c.requires.frame)))
+
+pub emit_stmt-emit_count-requires : goal.emit_stmt-emit_count-requires
+emit_stmt-emit_count-requires t c =
+    let p = program_of c.args.program.now in let f = func_in c.args.program.now c.args.func.now in let slots = slots_in c.args.program.now c.args.frame.now in
+    let n = c.args.frame.now.sites in let h = c.args.h in
+    let v = c.in-Count in
+    let shape : st_of c.args.s.now ≡ range (over_int (ex_of v.e)) (left_of v.key) blank (sts_of v.body.items) = grind (arith, stmt_rows) in
+    let fits = subst (λ (x : St). StFitsIn p slots n (result_words f) f.named h x) shape c.requires.fits in
+    let round = subst (λ (xs : List Stmt). StFitsIn p slots n (result_words f) f.named h (range (over_int (ex_of v.e)) (left_of v.key) blank (sts_of xs))) (sym c.deref-in-Count.ensures.value) fits in
+    (search (rules, stmt_rows), (round, (c.requires.returns, c.requires.frame)))
+
+pub emit_stmt-emit_indices-requires : goal.emit_stmt-emit_indices-requires
+emit_stmt-emit_indices-requires t c =
+    let p = program_of c.args.program.now in let f = func_in c.args.program.now c.args.func.now in let slots = slots_in c.args.program.now c.args.frame.now in
+    let n = c.args.frame.now.sites in let h = c.args.h in
+    let v = c.in-Indices in
+    let shape : st_of c.args.s.now ≡ range (over_length v.count) (left_of v.key) blank (sts_of v.body.items) = grind (arith, stmt_rows) in
+    let fits = subst (λ (x : St). StFitsIn p slots n (result_words f) f.named h x) shape c.requires.fits in
+    let round = subst (λ (xs : List Stmt). StFitsIn p slots n (result_words f) f.named h (range (over_length v.count) (left_of v.key) blank (sts_of xs))) (sym c.deref-in-Indices.ensures.value) fits in
+    (search (rules, stmt_rows), (round, (c.requires.returns, c.requires.frame)))
+
+pub emit_stmt-emit_stmts-requires-in-Elements : goal.emit_stmt-emit_stmts-requires-in-Elements
+emit_stmt-emit_stmts-requires-in-Elements t c =
+    let p = program_of c.args.program.now in let f = func_in c.args.program.now c.args.func.now in let slots = slots_in c.args.program.now c.args.frame.now in
+    let n = c.args.frame.now.sites in let h = c.args.h in
+    let v = c.in-Elements in
+    let shape : st_of c.args.s.now ≡ range (over_copy v.site.0 (ex_of v.e) v.count) (left_of v.key) (left_of v.value) (sts_of v.body.items) = grind (arith, stmt_rows) in
+    let fits = subst (λ (x : St). StFitsIn p slots n (result_words f) f.named h x) shape c.requires.fits in
+    let body = subst (λ (xs : List Stmt). StsFitIn p slots n (result_words f) f.named (h + 1) (sts_of xs)) (sym c.deref-in-Elements-2.ensures.value) (last_fits fits) in
+    (search (rules, stmt_rows), (body, (c.requires.returns, c.requires.frame)))

@@ -17,11 +17,12 @@ add-requires-clause-layout c =
 pub loop-func-preserved : goal.loop-func-preserved
 loop-func-preserved c =
     let types = trees c.args.program.now.types in let gs = c.as_slice-funcs.result.now in let whole = program_of c.args.program.now in let i = c.loop-func.func-index in let g = c.func-item.result in let l = c.loop-func-test.true in let is = c.func-item.is in (
-      code_next whole types gs i g l is _ c.loop-func.parts.instrs.items c.add.new.parts.instrs.items c.loop-func.invariant.0 c.in_ok-add.ensures.instrs,
-      owners_next whole types gs i g l is _ c.loop-func.parts.owners.items c.add.new.parts.owners.items c.loop-func.number (c.loop-func.number + 1) c.loop-func.invariant.1 c.in_ok-add.ensures.owners refl,
-      entries_next whole types gs i g l is _ c.loop-func.parts.funcs.items c.add.new.parts.funcs.items (length c.loop-func.parts.instrs.items) (length c.add.new.parts.instrs.items) c.loop-func.invariant.2 c.in_ok-add.ensures.funcs
-          (longer whole types gs i g l is c.loop-func.parts.instrs.items c.add.new.parts.instrs.items c.in_ok-add.ensures.instrs),
+      code_next whole types gs i g l is _ c.loop-func.parts.instrs.items c.add.new.parts.instrs.items c.loop-func.invariant.0 c.in_ok-globals-2.ensures.instrs,
+      owners_next whole types gs i g l is _ c.loop-func.parts.owners.items c.add.new.parts.owners.items c.loop-func.number (c.loop-func.number + 1) c.loop-func.invariant.1 c.in_ok-globals-2.ensures.owners refl,
+      entries_next whole types gs i g l is _ c.loop-func.parts.funcs.items c.add.new.parts.funcs.items (length c.loop-func.parts.instrs.items) (length c.add.new.parts.instrs.items) c.loop-func.invariant.2 c.in_ok-globals-2.ensures.funcs
+          (longer whole types gs i g l is c.loop-func.parts.instrs.items c.add.new.parts.instrs.items c.in_ok-globals-2.ensures.instrs),
       omega (arith, c.loop-func.invariant.3),
+      c.in_ok-globals-2.ensures.globals,
     )
 
 pub made-requires : goal.made-requires

@@ -1,13 +1,16 @@
 use Rattle.std.proofs.lemmas.List.{take_rest}
-use Rattle.std.proofs.Common.{◌≡◌, ◌+◌, ◌++◌, ◌∷◌, [], ◌∙◌, ◌-◌, rules, drop, take, length, sym, ap, subst, arith, true, false}
+use Rattle.std.proofs.Common.{◌≡◌, ◌+◌, ◌++◌, ◌∷◌, List, [], ◌∙◌, ◌-◌, rules, drop, take, length, sym, ap, subst, arith, true, false}
 use Rattle.isa.specs.declared.instr.Instr.{Instr}
 use Rattle.typed_syntax.specs.Types.{part_offset, part_type, width}
 use Rattle.typed.proofs.Rows.{expr_rows}
-use Rattle.typed_syntax.specs.Syntax.{ascend, binary, logical_and, logical_or, gap_behind, literal, type_named, wide, words_through}
+use Rattle.typed_syntax.specs.Syntax.{Ex, Exs, Pl, local, global, ascend, binary, logical_and, logical_or, gap_behind, literal, type_named, wide, words_through}
 use Rattle.typed.specs.Positions.{position}
-use Rattle.typed.specs.View.{elements_of, ex_of, exs_of, program_of}
+use Rattle.typed.specs.declared.expr.Element.{Element}
+use Rattle.typed.specs.declared.expr.Expr.{Expr}
+use Rattle.typed.specs.declared.expr.Step.{Step}
+use Rattle.typed.specs.View.{elements_of, ex_of, exs_of, exs_of_values, place_of, program_of, steps_of}
 use Rattle.expression_code.specs.Frame.{slots_in}
-use Rattle.expression_code.specs.Temps.{ExsFitIn}
+use Rattle.expression_code.specs.Temps.{ElementsFitIn, ExsFitIn, Fits, OperandsFit, StepsFitIn}
 use Rattle.program_code.specs.Code.{elements_code, ex_code, gap_code, moves, temp, zeros}
 use Rattle.expression_code.proofs.Elements.{literal_emitted, moved_emitted, moved_rest, number_of, ordered_emitted, ordered_rest, value_of, whole_is}
 use Rattle.expression_code.proofs.Steps.{code_inner, fits_index, fits_inner, step_emitted}
@@ -100,3 +103,40 @@ emit_steps-loop-step-preserved t c =
             (fits_index steps i x l is v.field-0 v.e v.field-2 v.is p slots c.args.frame.now.sites h inv.1).1.2,
           )
     ]
+
+-- what is asked where a row, the elements of a literal or the steps of a place are told by a slice
+pub emit_expr-emit_ordered-requires : goal.emit_expr-emit_ordered-requires
+emit_expr-emit_ordered-requires t c =
+    let p = program_of c.args.program.now in let slots = slots_in c.args.program.now c.args.frame.now in let n = c.args.frame.now.sites in let h = c.args.h in
+    let v = c.in-Literal in let es = elements_of v.es.items in let type = type_named p v.id.0 in
+    let shape : ex_of c.args.e.now ≡ literal v.id.0 es = grind (arith, expr_rows) in
+    let fits = subst (λ (e : Ex). Fits p slots n h e) shape c.requires.fits in
+    let order : ascend es ≡ true = ap (λ xs. ascend (elements_of xs)) (sym c.deref.ensures.value) ∙ sym c.ascends.ensures ∙ c.if-ascends.true in
+    (search (rules, expr_rows), (subst (λ (xs : List Element). ElementsFitIn p slots n h type true (elements_of xs)) (sym c.deref-then-ascends.ensures.value) (subst (λ b. ElementsFitIn p slots n h type b es) order fits.2), c.requires.frame))
+
+pub emit_expr-emit_moved-requires : goal.emit_expr-emit_moved-requires
+emit_expr-emit_moved-requires t c =
+    let p = program_of c.args.program.now in let slots = slots_in c.args.program.now c.args.frame.now in let n = c.args.frame.now.sites in let h = c.args.h in
+    let v = c.in-Literal in let es = elements_of v.es.items in let type = type_named p v.id.0 in
+    let shape : ex_of c.args.e.now ≡ literal v.id.0 es = grind (arith, expr_rows) in
+    let fits = subst (λ (e : Ex). Fits p slots n h e) shape c.requires.fits in
+    let order : ascend es ≡ false = ap (λ xs. ascend (elements_of xs)) (sym c.deref.ensures.value) ∙ sym c.ascends.ensures ∙ c.if-ascends.false in
+    (search (rules, expr_rows), (fits.1, (subst (λ (xs : List Element). ElementsFitIn p slots n h type false (elements_of xs)) (sym c.deref-else-ascends.ensures.value) (subst (λ b. ElementsFitIn p slots n h type b es) order fits.2), c.requires.frame)))
+
+pub emit_place-emit_steps-requires : goal.emit_place-emit_steps-requires
+emit_place-emit_steps-requires t c =
+    let p = program_of c.args.program.now in let slots = slots_in c.args.program.now c.args.frame.now in let n = c.args.frame.now.sites in let h = c.args.h in
+    let shape : place_of c.args.place.now ≡ local c.in-Local.field-0.0 (steps_of c.in-Local.steps.items) = grind (arith, expr_rows) in
+    (search (rules, expr_rows), (subst (λ (xs : List Step). StepsFitIn p slots n h (steps_of xs)) (sym c.deref.ensures.value) (subst (λ (q : Pl). OperandsFit p slots n h q) shape c.requires.fits), c.requires.frame))
+
+pub emit_place-emit_steps-requires-in-Global : goal.emit_place-emit_steps-requires-in-Global
+emit_place-emit_steps-requires-in-Global t c =
+    let p = program_of c.args.program.now in let slots = slots_in c.args.program.now c.args.frame.now in let n = c.args.frame.now.sites in let h = c.args.h in
+    let shape : place_of c.args.place.now ≡ global c.in-Global.field-0 (steps_of c.in-Global.steps.items) = grind (arith, expr_rows) in
+    (search (rules, expr_rows), (subst (λ (xs : List Step). StepsFitIn p slots n h (steps_of xs)) (sym c.deref-in-Global.ensures.value) (subst (λ (q : Pl). OperandsFit p slots n h q) shape c.requires.fits), c.requires.frame))
+
+pub emit_values-emit_row-requires : goal.emit_values-emit_row-requires
+emit_values-emit_row-requires t c =
+    let p = program_of c.args.program.now in let slots = slots_in c.args.program.now c.args.frame.now in let n = c.args.frame.now.sites in let h = c.args.h in
+    let shape : exs_of_values c.args.values.now ≡ exs_of c.in-Each.es.items = grind (arith, expr_rows) in
+    (search (rules, expr_rows), (subst (λ (xs : List Expr). ExsFitIn p slots n h (exs_of xs)) (sym c.deref.ensures.value) (subst (λ (es : Exs). ExsFitIn p slots n h es) shape c.requires.fits), c.requires.frame))
