@@ -1,9 +1,9 @@
 -- Lines from their pieces.
-use Rattle.std.proofs.Common.{◌≡◌, ◌∙◌, ap, sym, ℕ, ℤ, List, ◌++◌, Option, Result, OnErr, Vec, subst, codes, decimal, append_assoc}
+use Rattle.std.proofs.Common.{◌≡◌, ◌∙◌, ap, sym, ℕ, ℤ, List, ◌++◌, Option, Result, OnOk, OnErr, Vec, subst, codes, decimal, append_assoc}
 use Rattle.std.specs.Fmt.{signed_decimal}
 use Rattle.std.specs.declared.alloc.Global.{Global}
-use Rattle.outside.specs.Took.{TookPrefix}
-use Rattle.gostk.specs.Answer.{index_text, reason_text, panic_line}
+use Rattle.outside.specs.Took.{Took, TookPrefix}
+use Rattle.gostk.specs.Answer.{numbers_text, reason_text, panic_line}
 use Rattle.gostk.specs.declared.answer.Reason.{Reason}
 use Rattle.gostk.specs.declared.answer.Reason.TheVariants.{Text}
 use Rattle.gostk.specs.Refusal.{stage_text, words_text, refusal_line}
@@ -26,8 +26,17 @@ part_of_panic r old new taken bytes reason same is h =
     ap (λ (t : List ℕ). panic_line t) (same ∙ ap reason_text (sym is)) in
     subst (λ (t : List ℕ). OnErr r (TookPrefix old new t)) e h
 
--- the line of a panic by an index
-pub index_line : (index length : ℤ) → codes "panic: index " ++ (signed_decimal index ++ (codes " length " ++ (signed_decimal length ++ codes "\n"))) ≡ panic_line (index_text index length)
-index_line index length =
-    let i = signed_decimal index in let l = signed_decimal length in
-    ap (λ t. codes "panic: index " ++ t) (sym (append_assoc i (codes " length " ++ l) (codes "\n") ∙ ap (λ t. i ++ t) (append_assoc (codes " length ") l (codes "\n"))))
+-- the line of a panic that has a number, of the number as it was passed
+pub number_passed : {T E : Type 0} (r : Result T E) (old new : Option (List ℕ)) (before : List ℕ) (passed n : ℤ) → passed ≡ n
+    → OnOk r (Took old new (codes "panic: " ++ (before ++ (signed_decimal passed ++ codes "\n"))))
+    → OnOk r (Took old new (codes "panic: " ++ (before ++ (signed_decimal n ++ codes "\n"))))
+number_passed r old new before passed n same h = subst (λ (m : ℤ). OnOk r (Took old new (codes "panic: " ++ (before ++ (signed_decimal m ++ codes "\n"))))) same h
+
+-- the line of a panic that has two numbers
+pub numbers_line : (before : List ℕ) (first : ℤ) (between : List ℕ) (second : ℤ)
+    → codes "panic: " ++ (before ++ (signed_decimal first ++ (between ++ (signed_decimal second ++ codes "\n")))) ≡ panic_line (numbers_text before first between second)
+numbers_line before first between second =
+    let i = signed_decimal first in let l = signed_decimal second in
+    ap (λ t. codes "panic: " ++ t)
+    (sym (append_assoc before (i ++ (between ++ l)) (codes "\n")
+    ∙ ap (λ t. before ++ t) (append_assoc i (between ++ l) (codes "\n") ∙ ap (λ t. i ++ t) (append_assoc between l (codes "\n")))))

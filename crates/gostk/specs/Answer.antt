@@ -8,7 +8,7 @@ use Rattle.limits.specs.Limits.{fault_number}
 use Rattle.gostk.specs.Refusal.{refusal_line}
 use Rattle.gostk.specs.declared.answer.Answer.{Answer}
 use Rattle.gostk.specs.declared.answer.Reason.{Reason}
-use Rattle.gostk.specs.declared.answer.Reason.TheVariants.{DivideByZero, NilPointer, ShiftCount, IndexOutOfRange, ExitCode, Text, Int, Bool as Truth}
+use Rattle.gostk.specs.declared.answer.Reason.TheVariants.{DivideByZero, NilPointer, ShiftCount, IndexOutOfRange, SliceHigh, SliceLow, MakeLength, MakeCapacity, ExitCode, Text, Int, Bool as Truth}
 use Rattle.gostk.specs.declared.answer.Answer.TheVariants.{Ended, Panicked, Usage, Limits, SourceOnly, Refused, ReadFault, WriteFault, Steps, StackLimit, HeapLimit, NoMemory}
 
 abbrev pub status_of : Answer → ℕ
@@ -59,14 +59,21 @@ abbrev pub truth_text : Bool → List ℕ
 truth_text true = codes "true"
 truth_text false = codes "false"
 
+abbrev pub numbers_text : (before : List ℕ) → (first : ℤ) → (between : List ℕ) → (second : ℤ) → List ℕ
+numbers_text before first between second = before ++ (signed_decimal first ++ (between ++ signed_decimal second))
+
 abbrev pub index_text : (index length : ℤ) → List ℕ
-index_text index length = codes "index " ++ (signed_decimal index ++ (codes " length " ++ signed_decimal length))
+index_text index length = numbers_text (codes "index ") index (codes " length ") length
 
 abbrev pub reason_text : Reason → List ℕ
 reason_text DivideByZero = codes "divide by zero"
 reason_text NilPointer = codes "nil pointer"
 reason_text (ShiftCount n) = codes "shift count " ++ signed_decimal n
 reason_text (IndexOutOfRange index length) = index_text index length
+reason_text (SliceHigh high capacity) = numbers_text (codes "slice high ") high (codes " capacity ") capacity
+reason_text (SliceLow low high) = numbers_text (codes "slice low ") low (codes " high ") high
+reason_text (MakeLength n) = codes "make length " ++ signed_decimal n
+reason_text (MakeCapacity capacity length) = numbers_text (codes "make capacity ") capacity (codes " length ") length
 reason_text (ExitCode n) = codes "exit code " ++ signed_decimal n
 reason_text (Text bytes) = bytes.items
 reason_text (Int n) = signed_decimal n

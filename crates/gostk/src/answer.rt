@@ -15,6 +15,12 @@ pub enum Reason {
     ShiftCount(i64),
     /// An index, and the length of what has no such element.
     IndexOutOfRange { index: i64, length: i64 },
+    /// The upper bound of a slicing and the capacity, or the lower bound and the upper one, between which it doesn't lie.
+    SliceHigh { high: i64, capacity: i64 },
+    SliceLow { low: i64, high: i64 },
+    /// The length of a slice that can't be made, or its capacity and its length.
+    MakeLength(i64),
+    MakeCapacity { capacity: i64, length: i64 },
     /// The status of an exit, which is not from 0 to 125.
     ExitCode(i64),
     /// The bytes of a string, a number, or a truth value.
@@ -46,7 +52,7 @@ pub enum Answer<'a> {
     Steps(u64),
     /// A call would have passed the limit of the stack: the words in use, those asked for, and the limit.
     StackLimit { used: u64, asked: u64, limit: u64 },
-    /// The package variables would have passed the limit of the heap: the words taken, those asked for, and the limit.
+    /// Words would have passed the limit of the heap: those taken, those asked for, and the limit.
     HeapLimit { used: u64, asked: u64, limit: u64 },
     /// Memory was refused.
     NoMemory,

@@ -4,7 +4,7 @@ ghost use Rattle.std.specs.Prelude.{◌++◌, OnOk, OnErr, codes};
 ghost use Rattle.outside.specs.Causes.{HasCause};
 ghost use Rattle.outside.specs.Line.{text_of};
 ghost use Rattle.outside.specs.Took.{Took, TookPrefix};
-ghost use Rattle.gostk.specs.Answer.{line_of, index_text, reason_text, panic_line, limits_line, steps_line, limit_line};
+ghost use Rattle.gostk.specs.Answer.{line_of, numbers_text, reason_text, panic_line, limits_line, steps_line, limit_line};
 ghost use Rattle.gostk.specs.Refusal.{refusal_line};
 ghost use Rattle.gostk.specs.Rows.{Reported};
 
@@ -86,9 +86,21 @@ fn put_panic<E: Sink>(reason: &Reason, err: &mut E) -> Result<(), Failed>
     match reason {
         Reason::DivideByZero => put_text(b"panic: divide by zero\n", err),
         Reason::NilPointer => put_text(b"panic: nil pointer\n", err),
-        Reason::ShiftCount(n) => put_panic_number(b"panic: shift count ", *n, err),
-        Reason::IndexOutOfRange { index, length } => put_panic_index(*index, *length, err),
-        Reason::ExitCode(n) => put_panic_number(b"panic: exit code ", *n, err),
+        Reason::ShiftCount(n) => put_panic_number(b"shift count ", *n, err),
+        Reason::IndexOutOfRange { index, length } => {
+            put_panic_numbers(b"index ", *index, b" length ", *length, err)
+        }
+        Reason::SliceHigh { high, capacity } => {
+            put_panic_numbers(b"slice high ", *high, b" capacity ", *capacity, err)
+        }
+        Reason::SliceLow { low, high } => {
+            put_panic_numbers(b"slice low ", *low, b" high ", *high, err)
+        }
+        Reason::MakeLength(n) => put_panic_number(b"make length ", *n, err),
+        Reason::MakeCapacity { capacity, length } => {
+            put_panic_numbers(b"make capacity ", *capacity, b" length ", *length, err)
+        }
+        Reason::ExitCode(n) => put_panic_number(b"exit code ", *n, err),
         Reason::Text(bytes) => put_pieces(
             &[
                 LinePart::Text(b"panic: "),
@@ -97,20 +109,21 @@ fn put_panic<E: Sink>(reason: &Reason, err: &mut E) -> Result<(), Failed>
             ],
             err,
         ),
-        Reason::Int(n) => put_panic_number(b"panic: ", *n, err),
+        Reason::Int(n) => put_panic_number(b"", *n, err),
         Reason::Bool(true) => put_text(b"panic: true\n", err),
         Reason::Bool(false) => put_text(b"panic: false\n", err),
     }
 }
 
 // Writes the line of a panic that has a number.
-fn put_panic_number<E: Sink>(before: &[u8], n: i64, err: &mut E) -> Result<(), Failed>
-    ensures whole { OnOk result (Took (E.taken err.old) (E.taken err.new) (before.now ++ (signed_decimal n ++ codes "\n"))) }
-    ensures part { OnErr result (TookPrefix (E.taken err.old) (E.taken err.new) (before.now ++ (signed_decimal n ++ codes "\n"))) }
+fn put_panic_number<'a, E: Sink>(before: &'a [u8], n: i64, err: &mut E) -> Result<(), Failed>
+    ensures whole { OnOk result (Took (E.taken err.old) (E.taken err.new) (codes "panic: " ++ (before.now ++ (signed_decimal n ++ codes "\n")))) }
+    ensures part { OnErr result (TookPrefix (E.taken err.old) (E.taken err.new) (codes "panic: " ++ (before.now ++ (signed_decimal n ++ codes "\n")))) }
     ensures cause { HasCause (E.faults err.old) (E.faults err.new) result }
 {
     put_pieces(
         &[
+            LinePart::Text(b"panic: "),
             LinePart::Text(before),
             LinePart::Int(n),
             LinePart::Text(b"\n"),
@@ -119,18 +132,25 @@ fn put_panic_number<E: Sink>(before: &[u8], n: i64, err: &mut E) -> Result<(), F
     )
 }
 
-// Writes the line of a panic by an index.
-fn put_panic_index<E: Sink>(index: i64, length: i64, err: &mut E) -> Result<(), Failed>
-    ensures whole { OnOk result (Took (E.taken err.old) (E.taken err.new) (panic_line (index_text index length))) }
-    ensures part { OnErr result (TookPrefix (E.taken err.old) (E.taken err.new) (panic_line (index_text index length))) }
+// Writes the line of a panic that has two numbers.
+fn put_panic_numbers<'a, E: Sink>(
+    before: &'a [u8],
+    first: i64,
+    between: &'a [u8],
+    second: i64,
+    err: &mut E,
+) -> Result<(), Failed>
+    ensures whole { OnOk result (Took (E.taken err.old) (E.taken err.new) (panic_line (numbers_text before.now first between.now second))) }
+    ensures part { OnErr result (TookPrefix (E.taken err.old) (E.taken err.new) (panic_line (numbers_text before.now first between.now second))) }
     ensures cause { HasCause (E.faults err.old) (E.faults err.new) result }
 {
     put_pieces(
         &[
-            LinePart::Text(b"panic: index "),
-            LinePart::Int(index),
-            LinePart::Text(b" length "),
-            LinePart::Int(length),
+            LinePart::Text(b"panic: "),
+            LinePart::Text(before),
+            LinePart::Int(first),
+            LinePart::Text(between),
+            LinePart::Int(second),
             LinePart::Text(b"\n"),
         ],
         err,

@@ -27,6 +27,10 @@ fn panicked(alloc: Global, panic: Panic, strings: &[Vec<u8>]) -> Answer<'static>
         Panic::NilPointer => Reason::NilPointer,
         Panic::ShiftCount(n) => Reason::ShiftCount(n),
         Panic::IndexOutOfRange { index, length } => Reason::IndexOutOfRange { index, length },
+        Panic::SliceHigh { high, capacity } => Reason::SliceHigh { high, capacity },
+        Panic::SliceLow { low, high } => Reason::SliceLow { low, high },
+        Panic::MakeLength(n) => Reason::MakeLength(n),
+        Panic::MakeCapacity { capacity, length } => Reason::MakeCapacity { capacity, length },
         Panic::ExitCode(n) => Reason::ExitCode(n),
         Panic::Text(number) => match text_of(alloc, number, strings) {
             Ok(bytes) => Reason::Text(bytes),
