@@ -11,10 +11,10 @@ use Rattle.base.specs.declared.ids.SiteId.{SiteId}
 use Rattle.base.specs.declared.ids.FuncId.{FuncId}
 use Rattle.deref_walk.specs.declared.loc.Loc.{Loc}
 use Rattle.deref_walk.specs.declared.loc.Loc.TheVariants as loc
-use Rattle.report_checks.specs.declared.line.Known.{Known}
-use Rattle.report_checks.specs.declared.line.Known.TheVariants.{Package, Size, Unknown}
-use Rattle.report_checks.specs.declared.line.Placed.{Placed}
-use Rattle.report_checks.specs.declared.line.Placed.TheVariants as homes
+use Rattle.value_flows.specs.declared.placed.Known.{Known}
+use Rattle.value_flows.specs.declared.placed.Known.TheVariants.{Package, Size, Unknown}
+use Rattle.value_flows.specs.declared.placed.Placed.{Placed}
+use Rattle.value_flows.specs.declared.placed.Placed.TheVariants as homes
 use Rattle.report_checks.specs.declared.line.TagFlow.{TagFlow}
 use Rattle.report_checks.specs.declared.line.TagFlow.TheVariants as flows
 use Rattle.report_checks.specs.declared.line.Line.{Line}
@@ -161,7 +161,7 @@ placed_complete (homes.Flow r) h = follow (read_loc (loc_text r)) _ r _ (loc_com
 
 -- ---- names
 
-free_of : (s : ℕ) (xs : List ℕ) → (Contains xs s → ⊥) → Free s xs
+pub free_of : (s : ℕ) (xs : List ℕ) → (Contains xs s → ⊥) → Free s xs
 free_of s [] h = free_nil
 free_of s (x ∷ xs) h = free_cons (λ e. h (0, omega arith, e)) (free_of s xs (λ c. h (suc c.0, omega arith, c.2)))
 
@@ -369,7 +369,7 @@ text_sound t l h = elim (tried (after (codes "site ") t) _ _ l h) [
   ]
 ]
 
-line_complete : (l : Line) (name : List ℕ) → LineFits l → IsName name → read_text (line_text l name) ≡ Some l
+pub line_complete : (l : Line) (name : List ℕ) → LineFits l → IsName name → read_text (line_text l name) ≡ Some l
 line_complete (lines.Site s) name h n = site_complete s name h n
 line_complete (lines.Step s) name h n = step_complete s name h
 line_complete (lines.Tag s) name h n = tag_complete s name h

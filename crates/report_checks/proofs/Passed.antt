@@ -15,8 +15,8 @@ use Rattle.deref_walk.specs.declared.levels.Step.{Step}
 use Rattle.deref_walk.specs.Flow.{number_after, Leads, arrived, onward}
 use Rattle.deref_walk.specs.Locations.{same}
 use Rattle.deref_walk.proofs.Same.{same_is}
-use Rattle.report_checks.specs.declared.line.Placed.{Placed}
-use Rattle.report_checks.specs.declared.line.Placed.TheVariants as homes
+use Rattle.value_flows.specs.declared.placed.Placed.{Placed}
+use Rattle.value_flows.specs.declared.placed.Placed.TheVariants as homes
 use Rattle.report_checks.specs.declared.line.SiteLine.{SiteLine}
 use Rattle.report_checks.specs.declared.line.StepLine.{StepLine}
 use Rattle.report_checks.specs.declared.line.TagLine.{TagLine}

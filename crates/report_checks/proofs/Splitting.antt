@@ -50,7 +50,7 @@ read_more : (p : List ℕ) (ps : List (List ℕ)) → ((q : List ℕ) × (qs : L
 unfolding read_all
 read_more p ps h = ap (λ (x : List (List ℕ)). read_all (p ∷ x)) h.2 ∙ ap (λ (x : List (List ℕ)). read_text p ∷ read_all x) (sym h.2)
 
-lines_cut : (a b : List ℕ) → Free 10 a → lines_of (a ++ 10 ∷ b) ≡ read_text a ∷ lines_of b
+pub lines_cut : (a b : List ℕ) → Free 10 a → lines_of (a ++ 10 ∷ b) ≡ read_text a ∷ lines_of b
 unfolding lines_of
 lines_cut a b f = ap read_all (split_cut a b f) ∙ read_more a (split b) (split_some b)
 

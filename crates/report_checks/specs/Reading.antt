@@ -5,10 +5,10 @@ use Rattle.std.specs.Char.{is_ascii_digit}
 use Rattle.base.specs.declared.ids.SiteId.{SiteId}
 use Rattle.deref_walk.specs.declared.loc.Loc.{Loc}
 use Rattle.deref_walk.specs.declared.loc.Loc.TheVariants as loc
-use Rattle.report_checks.specs.declared.line.Known.{Known}
-use Rattle.report_checks.specs.declared.line.Known.TheVariants.{Package, Size, Unknown}
-use Rattle.report_checks.specs.declared.line.Placed.{Placed}
-use Rattle.report_checks.specs.declared.line.Placed.TheVariants as homes
+use Rattle.value_flows.specs.declared.placed.Known.{Known}
+use Rattle.value_flows.specs.declared.placed.Known.TheVariants.{Package, Size, Unknown}
+use Rattle.value_flows.specs.declared.placed.Placed.{Placed}
+use Rattle.value_flows.specs.declared.placed.Placed.TheVariants as homes
 use Rattle.report_checks.specs.declared.line.TagFlow.{TagFlow}
 use Rattle.report_checks.specs.declared.line.TagFlow.TheVariants as flows
 use Rattle.report_checks.specs.declared.line.Line.{Line}

@@ -7,8 +7,8 @@ use Rattle.deref_walk.specs.declared.graph.Edge.{Edge}
 use Rattle.deref_walk.specs.declared.graph.Location.{Location}
 use Rattle.deref_walk.specs.declared.levels.Step.{Step}
 use Rattle.deref_walk.specs.Flow.{Leads}
-use Rattle.report_checks.specs.declared.line.Known.{Known}
-use Rattle.report_checks.specs.declared.line.Placed.TheVariants as homes
+use Rattle.value_flows.specs.declared.placed.Known.{Known}
+use Rattle.value_flows.specs.declared.placed.Placed.TheVariants as homes
 use Rattle.report_checks.specs.declared.line.SiteLine.{SiteLine}
 use Rattle.report_checks.specs.declared.line.TagLine.{TagLine}
 use Rattle.report_checks.specs.declared.line.Line.{Line}

@@ -4,10 +4,10 @@ use Rattle.std.specs.Fmt.{signed_decimal}
 use Rattle.std.specs.List.{Contains}
 use Rattle.deref_walk.specs.declared.loc.Loc.{Loc}
 use Rattle.deref_walk.specs.declared.loc.Loc.TheVariants as loc
-use Rattle.report_checks.specs.declared.line.Known.{Known}
-use Rattle.report_checks.specs.declared.line.Known.TheVariants.{Package, Size, Unknown}
-use Rattle.report_checks.specs.declared.line.Placed.{Placed}
-use Rattle.report_checks.specs.declared.line.Placed.TheVariants as homes
+use Rattle.value_flows.specs.declared.placed.Known.{Known}
+use Rattle.value_flows.specs.declared.placed.Known.TheVariants.{Package, Size, Unknown}
+use Rattle.value_flows.specs.declared.placed.Placed.{Placed}
+use Rattle.value_flows.specs.declared.placed.Placed.TheVariants as homes
 use Rattle.report_checks.specs.declared.line.TagFlow.{TagFlow}
 use Rattle.report_checks.specs.declared.line.TagFlow.TheVariants as flows
 use Rattle.report_checks.specs.declared.line.Line.{Line}

@@ -10,8 +10,8 @@ use Rattle.deref_walk.specs.declared.graph.Edge.{Edge}
 use Rattle.deref_walk.specs.declared.graph.Location.{Location}
 use Rattle.deref_walk.specs.Flow.{number_after}
 use Rattle.deref_walk.specs.Locations.{same}
-use Rattle.report_checks.specs.declared.line.Placed.{Placed}
-use Rattle.report_checks.specs.declared.line.Placed.TheVariants as homes
+use Rattle.value_flows.specs.declared.placed.Placed.{Placed}
+use Rattle.value_flows.specs.declared.placed.Placed.TheVariants as homes
 use Rattle.report_checks.specs.declared.line.TagFlow.{TagFlow}
 use Rattle.report_checks.specs.declared.line.TagFlow.TheVariants as flows
 use Rattle.report_checks.specs.declared.line.SiteLine.{SiteLine}

@@ -6,11 +6,12 @@ ghost use Rattle.report_checks.specs.Verdict.{on_heap, is_above, is_flow_after, 
 
 use crate::fault::ReportFault;
 use crate::graph::{is_edge, is_there};
-use crate::line::{Line, Placed, SiteLine, StepLine, TagFlow, TagLine};
+use crate::line::{Line, SiteLine, StepLine, TagFlow, TagLine};
 use crate::sites::outlives;
 use crate::state::{Next, PathEnd, State};
 use base::SiteId;
 use deref_walk::{Edge, Graph, Loc, Location, is_same, number_after};
+use value_flows::Placed;
 
 /// Whether a site comes after the last one.
 #[tactic(auto, unfolding(crate::specs::Verdict::is_above))]

@@ -26,5 +26,5 @@ mod state;
 
 pub use checking::check_report;
 pub use fault::ReportFault;
-pub use line::{Known, Line, Placed, SiteLine, StepLine, TagFlow, TagLine};
+pub use line::{Line, SiteLine, StepLine, TagFlow, TagLine};
 pub use reading::read_line;

@@ -2,26 +2,7 @@
 
 use base::{FuncId, SiteId};
 use deref_walk::Loc;
-
-/// Why a site is on the heap, where no flow is the reason.
-#[derive(Clone, Copy, Debug, PartialEq, Eq)]
-pub enum Known {
-    /// It is a package variable.
-    Package,
-    /// Its variables are too large for a frame.
-    Size,
-    /// The size of its variables is not known.
-    Unknown,
-}
-
-/// Where the variables of a site are.
-#[derive(Clone, Copy, Debug, PartialEq, Eq)]
-pub enum Placed {
-    Stack,
-    Known(Known),
-    /// On the heap, since this location may hold the address of one, and outlives it.
-    Flow(Loc),
-}
+use value_flows::Placed;
 
 /// The line of a site: its number, the line and column of its place in the text, and where its variables are. Its name lies in the
 /// report alone.

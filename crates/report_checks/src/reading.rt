@@ -5,10 +5,11 @@ ghost use Rattle.report_checks.specs.Texts.{IsLineOf};
 ghost use Rattle.report_checks.specs.Reading.{read_result, read_site_number, read_loc, loc_before, read_known, read_heap, read_placed, after_name, read_site, read_step, read_result_flow, read_flow, read_tag, read_text};
 
 use crate::cuts::{after, front, front_length, rest};
-use crate::line::{Known, Line, Placed, SiteLine, StepLine, TagFlow, TagLine};
+use crate::line::{Line, SiteLine, StepLine, TagFlow, TagLine};
 use crate::numbers::{number_before, read_number, read_signed};
 use base::{FuncId, SiteId};
 use deref_walk::Loc;
+use value_flows::{Known, Placed};
 
 /// A result without a name, behind its `f`.
 #[tactic(auto, unfolding(crate::specs::Reading::read_result))]

@@ -5,10 +5,11 @@ ghost use Rattle.report_checks.specs.Lines.{lines_of};
 ghost use Rattle.report_checks.specs.Verdict.{is_on_heap, is_heap_line, on_heap, is_put_on_heap, outlives};
 
 use crate::graph::{is_there, lies_outside, outlives_all};
-use crate::line::{Line, Placed};
+use crate::line::Line;
 use crate::lines::line_at;
 use base::SiteId;
 use deref_walk::{Loc, Location};
+use value_flows::Placed;
 
 /// Whether the variables of a site are on the heap.
 #[tactic(auto, unfolding(crate::specs::Verdict::is_on_heap))]

@@ -3,9 +3,10 @@
 ghost use Rattle.std.specs.Prelude.{◌≡◌};
 ghost use Rattle.report_checks.specs.Verdict.{after_site, after_step, state_after};
 
-use crate::line::{Line, Placed, StepLine, TagLine};
+use crate::line::{Line, StepLine, TagLine};
 use base::SiteId;
 use deref_walk::Loc;
+use value_flows::Placed;
 
 /// What stands behind a line.
 #[derive(Clone, Copy, Debug, PartialEq, Eq)]

@@ -1,0 +1,2 @@
+-- Rows says that a row of values is a list.
+pub mod Rows
