@@ -1,0 +1,15 @@
+use Rattle.std.proofs.Common.{rules, tests, ◌≡◌, sym, ◌∙◌}
+use Rattle.std.proofs.lemmas.Iterator.{YieldsList-from_slice}
+use Rattle.std.proofs.lemmas.Iterator.Search.{all_from_yields_List}
+use Rattle.std.specs.List.{list_all}
+use Rattle.std.specs.Option.{option_map}
+use Rattle.std.proofs.lemmas.List.Folds.{list_all-map}
+use Rattle.value_flows.specs.View.{program_of}
+use Rattle.flow_batches.specs.Form.{may_be_of}
+use Rattle.flow_batches.proofs.form.params_fit.Goals as goal
+
+pub returns : goal.returns
+returns c =
+    let p = program_of c.args.program.now in
+    let by : c.all.result ≡ list_all (λ x. may_be_of p c.args.f (option_map (λ y. y.0) x)) c.args.params.now = all_from_yields_List (λ x. may_be_of p c.args.f (option_map (λ y. y.0) x)) _ _ c.all.result c.all.ensures.ran (YieldsList-from_slice c.args.params.now cc) (λ x b q k. search (rules, tests)) in
+    by ∙ sym (list_all-map (may_be_of p c.args.f) (option_map (λ y. y.0)) c.args.params.now)
