@@ -1,9 +1,7 @@
+-- Chained joins lists of calls, and Listed says that they have what is called. Tallied counts numbers in lists, Batched says what
+-- batches have of their components, and Ordered that they are the order.
 pub mod Chained
-pub mod Opened
-pub mod Searched
 pub mod Listed
-pub mod Counted
-pub mod Leaders
-pub mod Ranked
-pub mod Members
-pub mod Whole
+pub mod Tallied
+pub mod Batched
+pub mod Ordered

@@ -1,6 +1,5 @@
 -- The calls of a body as a list, in the order of the text.
-use Rattle.std.specs.Prelude.{ℕ, List, [], ◌∷◌, ◌++◌, Option, Some, None, map, Vec}
-use Rattle.std.specs.declared.alloc.Global.{Global}
+use Rattle.std.specs.Prelude.{ℕ, List, [], ◌∷◌, ◌++◌, Option, Some, None, map}
 use Rattle.typed_syntax.specs.Syntax.{Ex, Exs, Pl, Steps, local, global, here, inner, at_index, Left, blank, new, to, Piece, Over, St, Sts, Func, constant, read, unary, binary, logical_and, logical_or, call, part_of, literal, Elements, no_elements, element, none, more, results, read_int, text, shown, over_int, over_length, over_copy, declare, assign, update, bump, discard, block, if_stmt, for_stmt, range, break_stmt, continue_stmt, return_stmt, print, panic, exit, done, next}
 
 abbrev mutual
@@ -86,7 +85,3 @@ abbrev mutual
 -- the calls of each function
 abbrev pub call_lists : List Func → List (List ℕ)
 call_lists fs = map (λ f. called_by_all f.body) fs
-
--- the items of vectors
-abbrev pub lists : List (Vec ℕ Global) → List (List ℕ)
-lists vs = map (λ v. v.items) vs

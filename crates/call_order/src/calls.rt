@@ -1,8 +1,9 @@
 //! The functions that a body calls, in the order of the text, by their numbers.
 
 ghost use Rattle.std.specs.Prelude.{◌≡◌, [], ◌∷◌, ◌++◌, map, OnOk, IfOk};
+ghost use Rattle.components.specs.Graph.{rows};
 ghost use Rattle.typed.specs.View.{ex_of, exs_of, exs_of_values, place_of, steps_of, elements_of, left_of, piece_of, test_of, st_of, sts_of, program_of};
-ghost use Rattle.call_order.specs.Lists.{called, called_all, called_in_place, called_in_steps, called_in_elements, called_in_left, called_in_lefts, called_in_piece, called_in_pieces, called_in_test, called_by, called_by_all, call_lists, lists};
+ghost use Rattle.call_order.specs.Lists.{called, called_all, called_in_place, called_in_steps, called_in_elements, called_in_left, called_in_lefts, called_in_piece, called_in_pieces, called_in_test, called_by, called_by_all, call_lists};
 
 use base::NoMemory;
 use std::alloc::Global;
@@ -242,7 +243,7 @@ fn calls_of(alloc: Global, func: &Func) -> Result<Vec<u32>, NoMemory>
 
 /// The functions that each function of a program calls.
 pub fn all_calls(alloc: Global, program: &Program) -> Result<Vec<Vec<u32>>, NoMemory>
-    ensures { IfOk result (λ v. lists v.items ≡ call_lists (program_of program.now).funcs) }
+    ensures { IfOk result (λ v. rows v.items ≡ call_lists (program_of program.now).funcs) }
 {
     let funcs = program.funcs.as_slice();
     let mut all = Vec::new(alloc);

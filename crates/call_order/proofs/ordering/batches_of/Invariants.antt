@@ -1,7 +1,8 @@
-use Rattle.std.proofs.Common.{◌≡◌, map, take}
-use Rattle.call_order.specs.Marks.{mark_lists, members}
+use Rattle.std.proofs.Common.{take}
+use Rattle.components.specs.Components.{component_lists}
+use Rattle.call_order.specs.Batches.{AreBatchesOf}
 use Rattle.call_order.specs.Order.{batch_lists}
 use Rattle.call_order.proofs.ordering.batches_of.Given as goal
 
-abbrev pub invariant-loop-f : goal.invariant-loop-f
-invariant-loop-f l = batch_lists l.batches.items ≡ map (λ f. members (mark_lists l.marks) f l.count) (take l.f-index l.firsts)
+abbrev pub invariant-loop-component : goal.invariant-loop-component
+invariant-loop-component l = AreBatchesOf (component_lists (take l.component-index l.components)) (batch_lists l.batches.items)
