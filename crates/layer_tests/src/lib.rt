@@ -5,8 +5,6 @@
 #![tactic(auto)]
 
 #[cfg(test)]
-mod batches;
-#[cfg(test)]
 mod declared_structs;
 #[cfg(test)]
 mod demo_programs;
@@ -21,8 +19,6 @@ mod graphs;
 #[cfg(test)]
 mod heap;
 #[cfg(test)]
-mod reports;
-#[cfg(test)]
 mod run_limits;
 #[cfg(test)]
 mod scanner;
@@ -34,5 +30,3 @@ mod stack_region;
 mod string_literals;
 #[cfg(test)]
 mod type_table;
-#[cfg(test)]
-mod walks;

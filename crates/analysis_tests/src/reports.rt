@@ -3,10 +3,11 @@
 use base::{FuncId, SiteId};
 use deref_walk::{Edge, Graph, Loc, Location};
 use report_checks::{
-    Known, Line, Placed, ReportFault, SiteLine, StepLine, TagFlow, TagLine, check_report, read_line,
+    Line, ReportFault, SiteLine, StepLine, TagFlow, TagLine, check_report, read_line,
 };
 use std::alloc::Global;
 use std::test::Fail;
+use value_flows::{Known, Placed};
 
 fn site(number: u32) -> Loc {
     Loc::Site(SiteId(number))

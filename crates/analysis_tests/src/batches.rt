@@ -123,7 +123,7 @@ fn batches(rt: HostRuntime) -> Result<(), Fail> {
     let alloc = rt.alloc();
     // main calls 1 and 3; 1 and 2 call each other; 3 calls itself; nothing calls 4.
     let calls: [&[u32]; 5] = [&[1, 3], &[2], &[1], &[3], &[]];
-    check_calls(&rt, alloc, &calls, "3 | 4 | 1 2 | 0 | ")?;
+    check_calls(&rt, alloc, &calls, "3 | 1 2 | 0 | 4 | ")?;
     // A chain, a call of no function, and a way round through three.
     let calls: [&[u32]; 4] = [&[1], &[2], &[3, 9], &[]];
     check_calls(&rt, alloc, &calls, "3 | 2 | 1 | 0 | ")?;
