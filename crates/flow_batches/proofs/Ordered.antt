@@ -11,7 +11,7 @@ use Rattle.value_flows.specs.Syntax.{Program, Func}
 use Rattle.escape_graph.specs.Edges.{numbers, is_own}
 use Rattle.param_tags.specs.Order.{FuncCalls, Stands, AreOrdered}
 use Rattle.flow_batches.specs.Called.{called_by, call_lists}
-use Rattle.flow_batches.specs.Batches.{CallsAreThere, HaveAll, AreTogether, number_lists}
+use Rattle.flow_batches.specs.Batches.{CallsAreThere, HaveAll, AreSingle, AreTogether, number_lists}
 use Rattle.flow_batches.proofs.Listed.{calls_listed, joins_reaches, reaches_joins}
 
 -- ---- places
@@ -21,6 +21,11 @@ own_at ns f is = among_at f ns (any_among f ns is)
 
 at_own : (ns : List ℕ) (i f : ℕ) → slice_get ns i ≡ Some f → is_own ns f ≡ true
 at_own ns i f at = among_any f ns (at_among f ns i at)
+
+number_at : (b : List FuncId) (i : ℕ) (f : FuncId) → slice_get b i ≡ Some f → slice_get (numbers b) i ≡ Some f.0
+number_at [] i f at = let bad : None ≡ Some f = at in absurd cc
+number_at (g ∷ b) zero f at = ap (λ (x : FuncId). Some x.0) (same_Some g f at)
+number_at (g ∷ b) (suc i) f at = number_at b i f at
 
 numbers_at : (bs : List (List FuncId)) (k : ℕ) (b : List FuncId) → slice_get bs k ≡ Some b → slice_get (number_lists bs) k ≡ Some (numbers b)
 numbers_at [] k b at = let bad : None ≡ Some b = at in absurd cc
@@ -69,6 +74,11 @@ module _ (p : Program) (bs : List (List FuncId)) (found : AreComponents (call_li
 
   pub have_all : HaveAll p bs
   have_all f within = let at = found.all f (node f within) in (at.0, stands bs at.0 f at.1)
+
+  pub are_single : AreSingle bs
+  are_single k b at i j f first second =
+      let here = numbers_at bs k b at in
+      (found.once k i k j f.0 (numbers b, here, number_at b i f first) (numbers b, here, number_at b j f second)).1
 
   pub are_together : AreTogether p bs
   are_together f g f_within g_within =

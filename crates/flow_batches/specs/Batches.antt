@@ -1,5 +1,5 @@
 -- Batches of functions that reach one another by calls.
-use Rattle.std.specs.Prelude.{ℕ, ◌<◌, ◌↔◌, List, length, map}
+use Rattle.std.specs.Prelude.{◌≡◌, ℕ, ◌<◌, ◌↔◌, List, length, map, Some, slice_get}
 use Rattle.base.specs.declared.ids.FuncId.{FuncId}
 use Rattle.value_flows.specs.Syntax.{Program}
 use Rattle.escape_graph.specs.Edges.{numbers}
@@ -17,6 +17,11 @@ pub data Reaches (p : Program) : ℕ → ℕ → Type 0 where
 -- each function stands in a batch
 abbrev pub HaveAll : Program → List (List FuncId) → Type 0
 HaveAll p batches = (f : ℕ) → f < length p.funcs → (k : ℕ) × Stands batches k f
+
+-- no function stands twice in a batch
+abbrev pub AreSingle : List (List FuncId) → Type 0
+AreSingle batches = (k : ℕ) (b : List FuncId) → slice_get batches k ≡ Some b
+    → (i j : ℕ) (f : FuncId) → slice_get b i ≡ Some f → slice_get b j ≡ Some f → i ≡ j
 
 -- two functions stand in one batch
 abbrev pub Share : List (List FuncId) → ℕ → ℕ → Type 0

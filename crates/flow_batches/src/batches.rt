@@ -5,7 +5,7 @@ ghost use Rattle.components.specs.Components.{component_lists};
 ghost use Rattle.value_flows.specs.View.{program_of};
 ghost use Rattle.escape_graph.specs.Edges.{numbers};
 ghost use Rattle.param_tags.specs.Order.{AreOrdered};
-ghost use Rattle.flow_batches.specs.Batches.{CallsAreThere, HaveAll, AreTogether, number_lists};
+ghost use Rattle.flow_batches.specs.Batches.{CallsAreThere, HaveAll, AreSingle, AreTogether, number_lists};
 
 use crate::calls::all_calls;
 use base::{FuncId, NoMemory};
@@ -36,13 +36,14 @@ fn all_batches(alloc: Global, components: &[Component]) -> Result<Vec<Vec<FuncId
     Ok(batches)
 }
 
-/// The functions of a program in batches, callees first: two functions stand in one batch where each reaches the other by
-/// calls. Each function that is called must be there, as `is_formed` tests. More functions than can have numbers count as want
-/// of memory.
+/// The functions of a program in batches, callees first: each function stands once, in one batch, and two stand in one where each
+/// reaches the other by calls. Each function that is called must be there, as `is_formed` tests. More functions than can have
+/// numbers count as want of memory.
 pub fn batches_of(alloc: Global, program: &Program) -> Result<Vec<Vec<FuncId>>, NoMemory>
     requires calls { CallsAreThere (program_of program.now) }
     ensures ordered { IfOk result (λ v. AreOrdered (program_of program.now) (map (λ b. b.items) v.items)) }
     ensures all { IfOk result (λ v. HaveAll (program_of program.now) (map (λ b. b.items) v.items)) }
+    ensures single { IfOk result (λ v. AreSingle (map (λ b. b.items) v.items)) }
     ensures together { IfOk result (λ v. AreTogether (program_of program.now) (map (λ b. b.items) v.items)) }
 {
     let calls = all_calls(alloc, program)?;

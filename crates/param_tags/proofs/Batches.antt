@@ -1,5 +1,5 @@
 -- One batch after the other.
-use Rattle.std.proofs.Common.{◌≡◌, ◌⊎◌, inl, inr, ℕ, ◌<◌, ℤ, pos, negsuc, Bool, true, false, List, [], ◌∷◌, ◌++◌, Option, Some, None, length, refl, sym, subst, ap, ◌∙◌, arith}
+use Rattle.std.proofs.Common.{◌≡◌, ◌⊎◌, inl, inr, ◌↔◌, ℕ, ◌<◌, ℤ, pos, negsuc, Bool, true, false, List, [], ◌∷◌, ◌++◌, Option, Some, None, length, refl, sym, subst, ap, ◌∙◌, arith}
 use Rattle.std.specs.List.{Contains}
 use Rattle.std.specs.Prelude.{slice_get, ◌||◌}
 use Rattle.std.proofs.lemmas.List.Elements.{Contains-append_left, Contains-push, Contains-push_cases}
@@ -11,13 +11,14 @@ use Rattle.deref_walk.specs.declared.loc.Loc.{Loc}
 use Rattle.deref_walk.specs.declared.loc.Loc.TheVariants as loc
 use Rattle.deref_walk.specs.declared.graph.Edge.{Edge}
 use Rattle.deref_walk.specs.Flow.{Reaches, IsLeast}
+use Rattle.value_flows.specs.declared.placed.Known.{Known as KnownData}
 use Rattle.value_flows.specs.Syntax.{Func, Program, ParamTags, Tags}
 use Rattle.escape_graph.specs.Targets.{site}
 use Rattle.escape_graph.specs.Edges.{numbers, is_own, params_in, params_of, tags_of, batch_edges}
 use Rattle.value_flows.specs.declared.placed.Placed.{Placed}
-use Rattle.value_flows.specs.declared.placed.Placed.TheVariants.{Flow}
+use Rattle.value_flows.specs.declared.placed.Placed.TheVariants.{Known, Flow}
 use Rattle.param_tags.specs.declared.walks.Hold.{Hold}
-use Rattle.param_tags.specs.Heap.{placed_at, heap_of, known, is_result, outside, outlives, heap_roots, IsParamTagged, IsTagged, AreTagged, Agree, AgreeOnEach}
+use Rattle.param_tags.specs.Heap.{placed_at, heap_of, reason_in, known, is_result, outside, outlives, heap_roots, IsParamTagged, IsTagged, AreTagged, Agree, AgreeOnEach}
 use Rattle.param_tags.specs.Order.{AreOrdered, IsFormed, BatchFits, FuncCalls, func_in, func_at}
 use Rattle.param_tags.specs.Whole.{OwnSite, Own}
 use Rattle.param_tags.specs.Walks.{AreHolds}
@@ -32,11 +33,12 @@ use Rattle.param_tags.proofs.Flows.{least_finer, tag_roots}
 use Rattle.param_tags.proofs.Places.{member_own, own_member, or_true, two_values, one_value, contains_at, at_end, before_end, element_at}
 use Rattle.param_tags.proofs.Lesser.{root_more, tags_less, tags_map}
 
--- some batches are solved: their tags are set and their sites heap_of, and no closed set has fewer sites or lesser tags
+-- some batches are solved: their tags are set and their sites have their homes, and no closed set has fewer sites or lesser tags
 pub record Done (p : Program) (all seen : List (List FuncId)) (T : Tags) (H : List Placed) : Type 0 where
   pub tags : length T ≡ length p.funcs
   pub sites : length H ≡ length p.sites
   pub known : (l : ℕ) → known p l ≡ true → heap_of H l ≡ true
+  pub knowns : (l : ℕ) (why : KnownData) → (placed_at H l ≡ Known why) ↔ (reason_in (slice_get p.sites l) ≡ Some why)
   pub agree : (b : List FuncId) → Contains seen b → Agree p T (heap_of H) b
   pub reasons : (l : ℕ) (r : Loc) → placed_at H l ≡ Flow r → (outlives p (heap_of H) r l ≡ true) × ((c : List FuncId) × Contains seen c × IsLeast (batch_edges p T c) r (site l) (Some (negsuc 0)))
   pub sub : (U : Tags) (K : ℕ → Bool) → AgreeOnEach p all U K → (l : ℕ) → heap_of H l ≡ true → K l ≡ true
@@ -146,12 +148,12 @@ module _ (p : Program) (all : List (List FuncId)) (order : AreOrdered p all) (fo
       let E = batch_edges p T c in
       let fits = batch_fits p all order formed i c there in
       let same : batch_edges p U c ≡ E = same_edges p all order k b at T U s.others i c less there in
-      let old_mark : (r l : Loc) (d : ℤ) → Own p (numbers c) l → Reaches E r l d → (m : SiteId) → r ≡ loc.Site m → heap_of G m.0 ≡ true → heap_of H m.0 ≡ true = (λ r l d own flow m is t. elim (fresh m.0 t) [
+      let on_before : (r l : Loc) (d : ℤ) → Own p (numbers c) l → Reaches E r l d → (m : SiteId) → r ≡ loc.Site m → heap_of G m.0 ≡ true → heap_of H m.0 ≡ true = (λ r l d own flow m is t. elim (fresh m.0 t) [
         | inl old ↦ old
         | inr mine ↦ absurd (none_flows p all order k b at i c less there T fits m l d mine own (subst (λ (x : Loc). Reaches E x l d) is flow))
       ]) in
       let keep : (f : ℕ) → is_own (numbers c) f ≡ true → (x : ℕ) (t : ParamTags) → Contains (params_of p f) (Some x) → IsParamTagged p E (heap_of H) f x t → IsParamTagged p E (heap_of G) f x t = (λ f mine x t among tag. record {
-        heap = tag_roots (heap_roots (heap_of H)) (heap_roots (heap_of G)) E (site x) t.heap tag.heap (root_more (heap_of H) (heap_of G) more) (λ r d root flow. root_back (heap_of H) (heap_of G) r (old_mark r (site x) d (own_param p c fits f mine x among) flow) root);
+        heap = tag_roots (heap_roots (heap_of H)) (heap_roots (heap_of G)) E (site x) t.heap tag.heap (root_more (heap_of H) (heap_of G) more) (λ r d root flow. root_back (heap_of H) (heap_of G) r (on_before r (site x) d (own_param p c fits f mine x among) flow) root);
         numbers = tag.numbers;
         results = tag.results;
         listed = tag.listed;
@@ -162,7 +164,7 @@ module _ (p : Program) (all : List (List FuncId)) (order : AreOrdered p all) (fo
       subst (λ (ts : List ParamTags). AreTagged p E (heap_of G) f.0 (params_of p f.0) ts) (sym kept) (tags_map p E E (heap_of H) (heap_of G) f.0 (params_of p f.0) (tags_of T f.0) (keep f.0 mine) (agree.tagged f among))) in
       let shut : (r : Loc) (l : ℕ) → outlives p (heap_of G) r l ≡ true → IsLeast E r (site l) (Some (negsuc 0)) → heap_of G l ≡ true = (λ r l out least.
       let own : Own p (numbers c) (site l) = own_last p c T fits r l least.0 in
-      more l (agree.closed r l (outlives_back p (heap_of H) (heap_of G) r l (old_mark r (site l) (negsuc 0) own least.0) out) least)) in
+      more l (agree.closed r l (outlives_back p (heap_of H) (heap_of G) r l (on_before r (site l) (negsuc 0) own least.0) out) least)) in
       record {
         tagged = λ f among. subst (λ (F : List Edge). IsTagged p F (heap_of G) U f.0) (sym same) (right f among);
         closed = λ r l out least. shut r l out (subst (λ (F : List Edge). IsLeast F r (site l) (Some (negsuc 0))) same least);
@@ -213,6 +215,7 @@ done_more p all seen rest b split order formed T U H G d s =
       tags = s.size ∙ d.tags;
       sites = s.joined.joins.size ∙ d.sites;
       known = λ l h. s.joined.joins.more l (d.known l h);
+      knowns = λ l why. (λ m. (d.knowns l why).0 ((s.joined.joins.knowns l why).1 m), λ m. (s.joined.joins.knowns l why).0 ((d.knowns l why).1 m));
       agree = λ c among. elim (Contains-push_cases seen b c among) [
         | inl before ↦ (let place = before_end seen (b ∷ rest) c before in
             stays p all order formed k b at T U H G s place.0 c place.1 (subst (λ (xs : List (List FuncId)). slice_get xs place.0 ≡ Some c) (sym split) place.2) (d.agree c before))

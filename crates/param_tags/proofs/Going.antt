@@ -1,5 +1,5 @@
 -- Where the loop over batches begins, and how it goes on.
-use Rattle.std.proofs.Common.{◌≡◌, ℕ, zero, suc, ◌<◌, ◌+◌, ◌≤◌, List, [], ◌∷◌, ◌++◌, map, Option, Some, None, is_some, Result, Ok, Err, length, get_or, take, drop, refl, sym, subst, ap, ◌∙◌, arith, append-nil}
+use Rattle.std.proofs.Common.{◌≡◌, ◌↔◌, ℕ, zero, suc, ◌<◌, ◌+◌, ◌≤◌, List, [], ◌∷◌, ◌++◌, map, Option, Some, None, is_some, Result, Ok, Err, length, get_or, take, drop, refl, sym, subst, ap, ◌∙◌, arith, append-nil}
 use Rattle.std.specs.List.{Contains}
 use Rattle.std.specs.Prelude.{slice_get, Vec, OnOk}
 use Rattle.std.specs.declared.alloc.Global.{Global}
@@ -11,11 +11,11 @@ use Rattle.value_flows.specs.declared.program.Site.{Site}
 use Rattle.value_flows.specs.Syntax.{Program, ParamTags, Tags}
 use Rattle.escape_graph.specs.Edges.{tags_of}
 use Rattle.value_flows.specs.declared.placed.Placed.{Placed}
-use Rattle.value_flows.specs.declared.placed.Placed.TheVariants.{Flow}
+use Rattle.value_flows.specs.declared.placed.Placed.TheVariants.{Known, Flow}
 use Rattle.param_tags.specs.Heap.{is_on, placed_at, heap_of, reason_in, known}
 use Rattle.param_tags.specs.Order.{AreOrdered, IsFormed}
 use Rattle.param_tags.specs.Whole.{IsSolution}
-use Rattle.param_tags.specs.Solved.{Solves, mark_by, first_placed, first_placements}
+use Rattle.param_tags.specs.Solved.{Solves, home_by, first_placed, first_placements}
 use Rattle.param_tags.proofs.Finer.{AreLessParams}
 use Rattle.param_tags.proofs.Lists.{contains_nil}
 use Rattle.param_tags.proofs.Places.{member_own}
@@ -34,13 +34,13 @@ written_back new old n whole size =
     let gone : drop (length new) old ≡ [] = drop_all (length new) old (omega arith) in
     rw (gone, append-nil) (take_all n new (omega arith))
 
--- ---- the first placed and tags
+-- ---- the first homes and tags
 
-first_on : (o : Option KnownData) → is_on (mark_by o) ≡ is_some o
+first_on : (o : Option KnownData) → is_on (home_by o) ≡ is_some o
 first_on None = refl
 first_on (Some why) = refl
 
-first_flow : (o : Option KnownData) (r : Loc) → mark_by o ≡ Flow r → ⊥
+first_flow : (o : Option KnownData) (r : Loc) → home_by o ≡ Flow r → ⊥
 first_flow None r h = absurd (cc)
 first_flow (Some why) r h = absurd (cc)
 
@@ -49,21 +49,31 @@ no_flow [] l r h = absurd (cc)
 no_flow (s ∷ sites) zero r h = first_flow s.known r h
 no_flow (s ∷ sites) (suc l) r h = no_flow sites l r h
 
-first_marked : (sites : List Site) (l : ℕ) → heap_of (first_placements sites) l ≡ is_some (reason_in (slice_get sites l))
-first_marked [] l = refl
-first_marked (s ∷ sites) zero = first_on s.known
-first_marked (s ∷ sites) (suc l) = first_marked sites l
+first_on_heap : (sites : List Site) (l : ℕ) → heap_of (first_placements sites) l ≡ is_some (reason_in (slice_get sites l))
+first_on_heap [] l = refl
+first_on_heap (s ∷ sites) zero = first_on s.known
+first_on_heap (s ∷ sites) (suc l) = first_on_heap sites l
+
+first_by : (o : Option KnownData) (why : KnownData) → (home_by o ≡ Known why) ↔ (o ≡ Some why)
+first_by None why = (λ h. absurd (cc), λ h. absurd (cc))
+first_by (Some own) why = (λ h. (let same : own ≡ why = cc in ap Some same), λ h. (let same : own ≡ why = cc in ap Known same))
+
+first_known : (sites : List Site) (l : ℕ) (why : KnownData) → (placed_at (first_placements sites) l ≡ Known why) ↔ (reason_in (slice_get sites l) ≡ Some why)
+first_known [] l why = (λ h. absurd (cc), λ h. absurd (cc))
+first_known (s ∷ sites) zero why = first_by s.known why
+first_known (s ∷ sites) (suc l) why = first_known sites l why
 
 less_none : (ts us : List ParamTags) → ts ≡ [] → AreLessParams ts us
 less_none ts us none i t at = absurd (let gone : slice_get [] i ≡ Some t = subst (λ (xs : List ParamTags). slice_get xs i ≡ Some t) none at in cc)
 
 pub begins : (p : Program) (all : List (List FuncId)) (T : Tags) (H : List Placed) → length T ≡ length p.funcs → ((f : ℕ) → tags_of T f ≡ []) → H ≡ first_placements p.sites → Done p all [] T H
 begins p all T H size none placed =
-    let same : (l : ℕ) → heap_of H l ≡ known p l = (λ l. ap (λ (x : List Placed). heap_of x l) placed ∙ first_marked p.sites l) in
+    let same : (l : ℕ) → heap_of H l ≡ known p l = (λ l. ap (λ (x : List Placed). heap_of x l) placed ∙ first_on_heap p.sites l) in
     record {
       tags = size;
       sites = ap length placed ∙ length-map p.sites first_placed;
       known = λ l h. same l ∙ h;
+      knowns = λ l why. subst (λ (x : List Placed). (placed_at x l ≡ Known why) ↔ (reason_in (slice_get p.sites l) ≡ Some why)) (sym placed) (first_known p.sites l why);
       agree = λ b among. absurd (contains_nil b among);
       reasons = λ l r m. absurd (no_flow p.sites l r (sym (ap (λ (x : List Placed). placed_at x l) placed) ∙ m));
       sub = λ U K closed l h. closed.known l (sym (same l) ∙ h);

@@ -149,6 +149,7 @@ whole_set p batches order formed T H d = record {
 pub whole_solution : (p : Program) (batches : List (List FuncId)) → AreOrdered p batches → IsFormed p → (T : Tags) (H : List Placed) → Done p batches batches T H → IsSolution p batches T H
 whole_solution p batches order formed T H d = record {
   set = whole_set p batches order formed T H d;
+  knowns = d.knowns;
   reasons = λ l r m.
       let why = d.reasons l r m in
       let b = why.1.0 in

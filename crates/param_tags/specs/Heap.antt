@@ -17,9 +17,9 @@ use Rattle.value_flows.specs.declared.placed.Placed.TheVariants.{Stack, Known, F
 use Rattle.escape_graph.specs.Targets.{site, result_at}
 use Rattle.escape_graph.specs.Edges.{params_of, results_of, tags_of, batch_edges}
 
--- ---- placed
+-- ---- homes
 
--- the site's variables are on the heap
+-- a home is one of the heap
 abbrev pub is_on : Placed → Bool
 is_on Stack = false
 is_on (Known why) = true
@@ -29,7 +29,7 @@ is_on (Flow r) = true
 abbrev pub placed_at : List Placed → ℕ → Placed
 placed_at placed l = slice_index_or placed l Stack
 
--- the sites that placed put on the heap
+-- the sites whose homes are on the heap
 abbrev pub heap_of : List Placed → ℕ → Bool
 heap_of placed l = is_on (placed_at placed l)
 

@@ -14,12 +14,12 @@ use Rattle.param_tags.specs.Walks.{AreHolds}
 use Rattle.param_tags.specs.Rounds.{IsJoined}
 
 -- the home of a site to which nothing flows yet
-abbrev pub mark_by : Option KnownData → Placed
-mark_by None = Stack
-mark_by (Some why) = Known why
+abbrev pub home_by : Option KnownData → Placed
+home_by None = Stack
+home_by (Some why) = Known why
 
 abbrev pub first_placed : Site → Placed
-first_placed s = mark_by s.known
+first_placed s = home_by s.known
 
 abbrev pub first_placements : List Site → List Placed
 first_placements sites = map first_placed sites

@@ -1,5 +1,5 @@
 -- The least heap set, over the edges of all batches together.
-use Rattle.std.specs.Prelude.{◌≡◌, ℕ, ℤ, negsuc, Bool, true, List, Some}
+use Rattle.std.specs.Prelude.{◌≡◌, ◌↔◌, ℕ, ℤ, negsuc, Bool, true, List, Some, slice_get}
 use Rattle.std.specs.List.{Contains}
 use Rattle.base.specs.declared.ids.FuncId.{FuncId}
 use Rattle.deref_walk.specs.declared.loc.Loc.{Loc}
@@ -8,9 +8,10 @@ use Rattle.deref_walk.specs.Flow.{Reaches, IsLeast}
 use Rattle.value_flows.specs.Syntax.{Program, Tags}
 use Rattle.escape_graph.specs.Targets.{site}
 use Rattle.escape_graph.specs.Edges.{numbers, is_own, batch_edges, whole_edges}
+use Rattle.value_flows.specs.declared.placed.Known.{Known as KnownData}
 use Rattle.value_flows.specs.declared.placed.Placed.{Placed}
-use Rattle.value_flows.specs.declared.placed.Placed.TheVariants.{Flow}
-use Rattle.param_tags.specs.Heap.{placed_at, heap_of, known, outlives, IsTagged}
+use Rattle.value_flows.specs.declared.placed.Placed.TheVariants.{Known, Flow}
+use Rattle.param_tags.specs.Heap.{placed_at, heap_of, reason_in, known, outlives, IsTagged}
 use Rattle.param_tags.specs.Order.{AreOrdered, IsFormed, func_at}
 
 -- a site is one of the functions with these numbers
@@ -41,8 +42,10 @@ pub record IsHeapSet (p : Program) (batches : List (List FuncId)) (tags : Tags) 
   pub closed : IsClosed p batches tags H
   pub least : (other : Tags) (K : ℕ → Bool) → IsClosed p batches other K → (l : ℕ) → H l ≡ true → K l ≡ true
 
--- tags and placed, which put the least set on the heap; each site that is there by flow names a location that outlives it and may hold its
--- address
+-- tags and a home for each site, which put the least set on the heap; a site is there for a known reason exactly where it has that
+-- reason, and each that is there by flow names a location that outlives it and may hold its address
 pub record IsSolution (p : Program) (batches : List (List FuncId)) (tags : Tags) (placed : List Placed) : Type 0 where
   pub set : IsHeapSet p batches tags (heap_of placed)
-  pub reasons : (l : ℕ) (r : Loc) → placed_at placed l ≡ Flow r → (outlives p (heap_of placed) r l ≡ true) × IsLeast (whole_edges p tags batches) r (site l) (Some (negsuc 0))
+  pub knowns : (l : ℕ) (why : KnownData) → (placed_at placed l ≡ Known why) ↔ (reason_in (slice_get p.sites l) ≡ Some why)
+  pub reasons : (l : ℕ) (r : Loc) → placed_at placed l ≡ Flow r
+      → (outlives p (heap_of placed) r l ≡ true) × IsLeast (whole_edges p tags batches) r (site l) (Some (negsuc 0))

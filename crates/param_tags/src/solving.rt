@@ -27,8 +27,8 @@ pub struct Solved {
     pub paths: Vec<Option<Vec<Step>>>,
 }
 
-/// Solves one batch, where the earlier ones are solved: its tags are set, and its sites that flow to what outlives them get placed
-/// and paths. Errs where memory is refused, or a number is too great.
+/// Solves one batch, where the earlier ones are solved: its tags are set, and its sites whose addresses flow to what outlives
+/// them get their homes and paths. Errs where memory is refused, or a number is too great.
 fn solve_batch(
     alloc: Global,
     program: &Program,

@@ -6,8 +6,8 @@ use Rattle.components.specs.Components.{AreComponents, component_lists}
 use Rattle.value_flows.specs.View.{program_of}
 use Rattle.param_tags.specs.Order.{AreOrdered}
 use Rattle.flow_batches.specs.Called.{call_lists}
-use Rattle.flow_batches.specs.Batches.{HaveAll, AreTogether, number_lists}
-use Rattle.flow_batches.proofs.Ordered.{are_ordered, have_all, are_together}
+use Rattle.flow_batches.specs.Batches.{HaveAll, AreSingle, AreTogether, number_lists}
+use Rattle.flow_batches.proofs.Ordered.{are_ordered, have_all, are_single, are_together}
 use Rattle.flow_batches.proofs.batches.batches_of.Goals as goal
 
 pub returns : goal.returns
@@ -21,5 +21,6 @@ returns c =
     record {
       ordered = IfOk-weaker c.all_batches.result _ (λ v. AreOrdered p (map (λ b. b.items) v.items)) (λ v e. are_ordered p (map (λ b. b.items) v.items) (of (map (λ b. b.items) v.items) e) c.requires.calls) c.all_batches.ensures;
       all = IfOk-weaker c.all_batches.result _ (λ v. HaveAll p (map (λ b. b.items) v.items)) (λ v e. have_all p (map (λ b. b.items) v.items) (of (map (λ b. b.items) v.items) e)) c.all_batches.ensures;
+      single = IfOk-weaker c.all_batches.result _ (λ v. AreSingle (map (λ b. b.items) v.items)) (λ v e. are_single p (map (λ b. b.items) v.items) (of (map (λ b. b.items) v.items) e)) c.all_batches.ensures;
       together = IfOk-weaker c.all_batches.result _ (λ v. AreTogether p (map (λ b. b.items) v.items)) (λ v e. are_together p (map (λ b. b.items) v.items) (of (map (λ b. b.items) v.items) e)) c.all_batches.ensures;
     }

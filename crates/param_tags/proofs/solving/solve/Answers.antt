@@ -59,11 +59,11 @@ loop-batch-preserved c =
     let placed : length G ≡ length H = solved.joined.joins.size in
     let done = goes_on p batches i x b c.deref.ensures.value c.loop-batch-test.true c.batch-item.is c.requires.order c.requires.formed T U H G c.loop-batch.invariant.done solved in
     let traced = traces_on p batches i x b c.deref.ensures.value c.loop-batch-test.true c.batch-item.is c.requires.order T U H G old new solved.others size kept c.loop-batch.invariant.traced in
-    let whole_marks : vec_len c.loop-batch.placed ≡ length H = omega arith in
+    let whole_homes : vec_len c.loop-batch.placed ≡ length H = omega arith in
     let whole_paths : vec_len c.loop-batch.paths ≡ length old = omega arith in
     record {
-      done = rw (written_back G H (vec_len c.loop-batch.placed) whole_marks placed) done;
-      traced = rw (written_back G H (vec_len c.loop-batch.placed) whole_marks placed, written_back new old (vec_len c.loop-batch.paths) whole_paths size) traced;
+      done = rw (written_back G H (vec_len c.loop-batch.placed) whole_homes placed) done;
+      traced = rw (written_back G H (vec_len c.loop-batch.placed) whole_homes placed, written_back new old (vec_len c.loop-batch.paths) whole_paths size) traced;
     }
 
 pub returns-clause-solution : goal.returns-clause-solution
