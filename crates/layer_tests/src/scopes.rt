@@ -1,6 +1,6 @@
 //! What no clause of `names` says: that memory is given where it is ample, and tables of blocks, names, values and types.
 
-use base::{FuncId, Pos, ValueType};
+use base::{FuncId, Pos, StructId, ValueType};
 use constants::{Constant, untyped};
 use names::{Blocks, Declared, Known, Scope, ValueId, beginning, type_fault, type_in};
 use std::alloc::Global;
@@ -124,7 +124,7 @@ fn word(start: u32, end: u32) -> Expr {
 
 fn declare_names(scope: &mut Scope) -> Result<(), Fail> {
     scope.declare(b"f", Declared::Function(FuncId(0)))?;
-    scope.declare(b"T", Declared::TypeName)?;
+    scope.declare(b"T", Declared::Type(ValueType::Struct(StructId(0))))?;
     Ok(scope.declare(b"k", Declared::Constant(ValueId(0)))?)
 }
 

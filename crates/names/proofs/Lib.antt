@@ -2,4 +2,5 @@ pub mod Tables
 pub mod LastInsert
 pub mod Trees
 pub mod Settled
+pub mod Parts
 pub mod Places

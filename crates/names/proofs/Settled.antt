@@ -54,7 +54,6 @@ IsTyped T sigs values (declared.Constant k) = IsKnown (option_and_then (λ o. o)
 IsTyped T sigs values (declared.Global k g) = IsKnown (option_and_then (λ o. o) (slice_get values k.0))
 IsTyped T sigs values (declared.Function f) = HasSignature (option_and_then (λ o. o) (slice_get sigs f.0))
 IsTyped T sigs values (declared.External e at) = ⊤
-IsTyped T sigs values declared.TypeName = ⊥
 IsTyped T sigs values (declared.«Type» t) = is_known T t ≡ true
 IsTyped T sigs values (declared.Truth b) = ⊤
 IsTyped T sigs values declared.Nil = ⊤
@@ -111,7 +110,7 @@ known_decided : (t : ValueType) (b : Bool) → b ≡ true → Decided (allowed b
 known_decided t true is = λ f h. h
 known_decided t false is = cc is
 
-type_name_decided : (s : Scope) (d : Option Declared) (at : Pos) → ((x : Declared) → d ≡ Some x → IsTyped s.types s.signatures s.values x) → Decided (declared_type s.types d) (IsFault (type_name_fault d at))
+pub type_name_decided : (s : Scope) (d : Option Declared) (at : Pos) → ((x : Declared) → d ≡ Some x → IsTyped s.types s.signatures s.values x) → Decided (declared_type s.types d) (IsFault (type_name_fault d at))
 type_name_decided s None at typed = (_, refl)
 type_name_decided s (Some (declared.Variable site t)) at typed = (_, refl)
 type_name_decided s (Some declared.Untyped) at typed = (_, refl)
@@ -119,7 +118,6 @@ type_name_decided s (Some (declared.Constant k)) at typed = (_, refl)
 type_name_decided s (Some (declared.Global k g)) at typed = (_, refl)
 type_name_decided s (Some (declared.Function g)) at typed = (_, refl)
 type_name_decided s (Some (declared.External e place)) at typed = (_, refl)
-type_name_decided s (Some declared.TypeName) at typed = absurd (typed declared.TypeName refl)
 type_name_decided s (Some (declared.«Type» t)) at typed = known_decided t (is_known s.types t) (typed (declared.«Type» t) refl)
 type_name_decided s (Some (declared.Truth b)) at typed = (_, refl)
 type_name_decided s (Some declared.Nil) at typed = (_, refl)

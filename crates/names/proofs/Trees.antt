@@ -23,7 +23,7 @@ mapped T [] i t is = cc is
 mapped T (u ∷ us) zero t is = let e : u ≡ t = cc is in ap (λ v. unwrap_or (tree_of T v) ints) e
 mapped T (u ∷ us) (suc i) t is = mapped T us i t is
 
-tree_there : (T : Table) (i : ℕ) (t : ValueType) → Holds T i t → tree_named T i ≡ unwrap_or (tree_of T t) ints
+pub tree_there : (T : Table) (i : ℕ) (t : ValueType) → Holds T i t → tree_named T i ≡ unwrap_or (tree_of T t) ints
 tree_there T i t is = mapped T T.types i t is
 
 -- each number of a table is that of a type whose values have a word at least; what has no tree counts as a whole number
@@ -35,7 +35,7 @@ solid_tree T formed i (Some t) is = by (tree_of T t) refl
     by None e = omega arith
     by (Some x) e = (formed.types i t (width x) is (ap (option_map width) e)).0
 
-named_tree : (T : Table) (ts : List ValueType) (i : ℕ) → get_or (map (λ u. unwrap_or (tree_of T u) ints) ts) i ints ≡ unwrap_or (option_and_then (tree_of T) (slice_get ts i)) ints
+pub named_tree : (T : Table) (ts : List ValueType) (i : ℕ) → get_or (map (λ u. unwrap_or (tree_of T u) ints) ts) i ints ≡ unwrap_or (option_and_then (tree_of T) (slice_get ts i)) ints
 named_tree T [] i = refl
 named_tree T (u ∷ us) zero = refl
 named_tree T (u ∷ us) (suc i) = named_tree T us i
@@ -43,7 +43,7 @@ named_tree T (u ∷ us) (suc i) = named_tree T us i
 pub solid : (T : Table) → IsFormed T → (i : ℕ) → 0 < width (tree_named T i)
 solid T formed i = subst (λ x. 0 < width x) (sym (named_tree T T.types i)) (solid_tree T formed i (slice_get T.types i) refl)
 
-tree_held : (T : Table) (t : ValueType) (i : ℕ) → Holds T i t → tree_at T i ≡ tree_of T t
+pub tree_held : (T : Table) (t : ValueType) (i : ℕ) → Holds T i t → tree_at T i ≡ tree_of T t
 tree_held T t i h = ap (option_and_then (tree_of T)) h
 
 module _ (T : Table) (formed : IsFormed T) where

@@ -1,5 +1,5 @@
 -- Blocks of names inside each other (Go specification, "Blocks", "Declarations and scope").
-use Rattle.std.specs.Prelude.{ℕ, List, [], ◌∷◌, map, reverse, Option, Some, None, if◌then◌else◌}
+use Rattle.std.specs.Prelude.{ℕ, List, [], ◌∷◌, length, map, reverse, Option, Some, None, if◌then◌else◌}
 use Rattle.std.specs.Str.{bytes_eq}
 use Rattle.std.specs.Global.{Vec}
 use Rattle.std.specs.declared.hash.FoldHasher.{FoldHasher}
@@ -33,6 +33,11 @@ lookup (b ∷ bs) name = or_else (entry_of b name) (lookup bs name)
 abbrev pub innermost : Blocks → List ℕ → Option ℕ
 innermost [] name = None
 innermost (b ∷ bs) name = entry_of b name
+
+-- how many names the innermost block has
+abbrev pub count : Blocks → ℕ
+count [] = 0
+count (b ∷ bs) = length b
 
 -- a name of one block gets a number
 abbrev pub with_entry : Names → List ℕ → ℕ → Names

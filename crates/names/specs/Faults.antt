@@ -13,7 +13,6 @@ use Rattle.names.specs.Scope.{Scope, declaration}
 -- the name of a type: another type of the language, or what is no type
 abbrev pub type_name_fault : Option Declared → Pos → Option Fault
 type_name_fault None pos = Some (fault Unknown pos)
-type_name_fault (Some declared.TypeName) pos = None
 type_name_fault (Some (declared.«Type» t)) pos = None
 type_name_fault (Some declared.LeftOutType) pos = Some (fault OutOfProfile pos)
 type_name_fault (Some other) pos = Some (fault Unfit pos)

@@ -42,7 +42,7 @@ signature_of s = record { params = s.params.items; results = s.results.items }
 -- the blocks that are open, which number the declarations; the declarations; the sites of the variables with a type; the signatures of the
 -- functions, where they have one; what is known of the constants and the package variables, which are numbered together: the value of a
 -- constant, and the type of a variable; which of them are the package variables with a name; the bytes of the strings that stand in
--- statements so far; and the types of the program
+-- statements so far; the types of the program; and the fields of each struct, a block of names for each
 pub record Scope : Type 0 where
   pub blocks : Blocks
   pub declared : List Declared
@@ -52,9 +52,10 @@ pub record Scope : Type 0 where
   pub globals : List ℕ
   pub strings : List (List ℕ)
   pub types : Table
+  pub fields : List Blocks
 
 abbrev pub scope_of : ScopeData → Scope
-scope_of s = record { blocks = s.names; declared = s.declared.items; sites = s.sites.items; signatures = map (option_map signature_of) s.signatures.items; values = s.values.items; globals = map (λ k. k.0) s.globals.items; strings = map (λ string. string.items) s.strings.items; types = s.types }
+scope_of s = record { blocks = s.names; declared = s.declared.items; sites = s.sites.items; signatures = map (option_map signature_of) s.signatures.items; values = s.values.items; globals = map (λ k. k.0) s.globals.items; strings = map (λ string. string.items) s.strings.items; types = s.types; fields = s.fields.items }
 
 -- what the number of a declaration stands for, or else what the language says of the name
 abbrev pub numbered : Scope → List ℕ → Option ℕ → Option Declared
@@ -110,6 +111,10 @@ with_known s k o = record s { values = slice_set s.values k o }
 abbrev pub with_strings : Scope → List (List ℕ) → Scope
 with_strings s strings = record s { strings = s.strings ++ strings }
 
+-- one more struct, by the names of its fields
+abbrev pub with_struct : Scope → Blocks → Scope
+with_struct s names = record s { fields = s.fields ++ names ∷ [] }
+
 -- where a block begins
 abbrev pub opened : Scope → Scope
 opened s = record s { blocks = [] ∷ s.blocks }
@@ -124,4 +129,4 @@ closed s = record s { blocks = outer s.blocks }
 
 -- where no name is declared
 abbrev pub beginning : Scope
-beginning = record { blocks = [] ∷ []; declared = []; sites = []; signatures = []; values = []; globals = []; strings = []; types = basic_table }
+beginning = record { blocks = [] ∷ []; declared = []; sites = []; signatures = []; values = []; globals = []; strings = []; types = basic_table; fields = [] }

@@ -3,7 +3,7 @@
 ghost use Rattle.std.specs.Prelude.{◌≡◌, ◌<◌, [], ◌∷◌, length, OnOk, OnErr};
 ghost use Rattle.std.specs.Prelude.{reverse, map, ℕ, List, Some, if◌then◌else◌};
 ghost use Rattle.std.specs.Str.{bytes_eq};
-ghost use Rattle.names.specs.Blocks.{lookup, innermost, insert, names_of, entry_of, outer_of};
+ghost use Rattle.names.specs.Blocks.{lookup, innermost, count, insert, names_of, entry_of, outer_of};
 
 use base::NoMemory;
 use indexmap::IndexMap;
@@ -66,6 +66,13 @@ impl Blocks {
         if let Some(around) = self.outer.pop() {
             self.innermost = around;
         }
+    }
+
+    /// How many names the innermost block has.
+    pub fn count(&self) -> usize
+        ensures { result ≡ count self.now }
+    {
+        self.innermost.len()
     }
 
     /// Gives a name of the innermost block a number, in place of the one that it had there.

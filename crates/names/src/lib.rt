@@ -5,19 +5,22 @@
 //! close in the order opposite to that in which they were opened. Each keeps its names in the order in which they were declared, with a
 //! number of the caller's for each.
 //!
-//! A scope is the open blocks, what their numbers stand for, and what is known of the variables, functions, constants and strings of a program.
+//! A scope is the open blocks, what their numbers stand for, and what is known of the variables, functions, constants, strings, types and
+//! structs of a program.
 #![tactic(auto)]
 
 mod blocks;
+mod fields;
 mod naming;
 mod scope;
 mod type_names;
 mod universe;
 
 pub use blocks::Blocks;
+pub use fields::{Part, known_number, named_field, part_count, part_of};
 pub use naming::{between, name_in, spelled};
 pub use scope::{
     Declared, External, GlobalId, Known, Scope, Signature, ValueId, beginning, type_id,
 };
-pub use type_names::{type_fault, type_in};
+pub use type_names::{array_type, declared_type, is_known, type_fault, type_in, type_name_fault};
 pub use universe::{is_blank, is_main};

@@ -2,7 +2,7 @@
 
 ghost use Rattle.std.specs.Prelude.{◌≡◌, ◌<◌, length, map, OnOk, IfOk, Option, None, Some, ◌+◌};
 ghost use Rattle.std.specs.Option.{option_map};
-ghost use Rattle.names.specs.Scope.{type_number, scope_of, signature_of, declaration, is_here, signature, known, beginning, with_declaration, with_site, with_variable, with_signature, with_value, with_global, with_known, with_strings, opened, closed};
+ghost use Rattle.names.specs.Scope.{type_number, scope_of, signature_of, declaration, is_here, signature, known, beginning, with_declaration, with_site, with_variable, with_signature, with_value, with_global, with_known, with_strings, with_struct, opened, closed};
 
 use crate::blocks::Blocks;
 use crate::universe::predeclared;
@@ -64,9 +64,7 @@ pub enum Declared {
     Function(FuncId),
     /// A function that has no body, and the place of its name.
     External(External, Pos),
-    /// A type of the program.
-    TypeName,
-    /// A predeclared type.
+    /// A type: a predeclared one, or a struct of the program.
     Type(ValueType),
     /// `true` or `false`.
     Truth(bool),
@@ -85,7 +83,7 @@ pub enum Declared {
 /// The declarations that are in scope: the open blocks number them. And the sites of the variables that have a type, the
 /// signature of each function, where it has one, and the bytes of the strings that stand in statements so far. Of each
 /// constant and each package variable, which are numbered together, it says what is known, where something is. And the
-/// types of the program.
+/// types of the program, and the fields of each struct: a block of names for each.
 #[derive(Drop)]
 pub struct Scope {
     pub names: Blocks,
@@ -96,6 +94,7 @@ pub struct Scope {
     pub globals: Vec<ValueId>,
     pub strings: Vec<Vec<u8>>,
     pub types: TypeTable,
+    pub fields: Vec<Blocks>,
 }
 
 /// Where no name is declared.
@@ -111,6 +110,7 @@ pub fn beginning(alloc: Global) -> Result<Scope, NoMemory>
         globals: Vec::new(alloc),
         strings: Vec::new(alloc),
         types: TypeTable::new(alloc, 0)?,
+        fields: Vec::new(alloc),
     })
 }
 
@@ -218,6 +218,21 @@ impl Scope {
     {
         let mut strings = strings;
         self.strings.append(&mut strings)?;
+        Ok(())
+    }
+
+    /// How many structs there are.
+    pub fn struct_count(&self) -> usize
+        ensures { result ≡ length (scope_of self.now).fields }
+    {
+        self.fields.len()
+    }
+
+    /// Adds a struct with the next number, by the names of its fields.
+    pub fn add_struct(&mut self, fields: Blocks) -> Result<(), NoMemory>
+        ensures { OnOk result (scope_of self.new ≡ with_struct (scope_of self.old) fields) }
+    {
+        self.fields.push(fields)?;
         Ok(())
     }
 

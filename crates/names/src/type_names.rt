@@ -5,7 +5,7 @@ ghost use Rattle.syntax.specs.Expressions.{ex_of as tree_of, spelled};
 ghost use Rattle.type_faults.specs.Least.{IsLeast};
 ghost use Rattle.type_faults.specs.Faults.{IsFault};
 ghost use Rattle.names.specs.Scope.{scope_of, declaration};
-ghost use Rattle.names.specs.Types.{is_known, declared_type, type_in};
+ghost use Rattle.names.specs.Types.{is_known, declared_type, array_type, type_in};
 ghost use Rattle.names.specs.Faults.{type_name_fault, FailsAsType};
 
 use crate::naming::spelled;
@@ -16,7 +16,7 @@ use type_faults::{Fault, FaultKind};
 use typed::TypeTable;
 
 /// Whether a type has a number, and words.
-fn is_known(types: &TypeTable, value_type: ValueType) -> bool
+pub fn is_known(types: &TypeTable, value_type: ValueType) -> bool
     ensures { result ≡ is_known types.now value_type }
 {
     match types.find(value_type) {
@@ -26,7 +26,7 @@ fn is_known(types: &TypeTable, value_type: ValueType) -> bool
 }
 
 /// The type that a name stands for; one that is refused is none.
-fn declared_type(types: &TypeTable, declared: Option<Declared>) -> Option<ValueType>
+pub fn declared_type(types: &TypeTable, declared: Option<Declared>) -> Option<ValueType>
     ensures { result ≡ declared_type types.now declared }
 {
     match declared {
@@ -35,7 +35,19 @@ fn declared_type(types: &TypeTable, declared: Option<Declared>) -> Option<ValueT
     }
 }
 
-/// The type that an expression is, where it is one of this part.
+/// The type of arrays of a length and of elements of a type; one that is refused, or that the table doesn't have, is none.
+pub fn array_type(types: &TypeTable, length: u64, element: ValueType) -> Option<ValueType>
+    ensures { result ≡ array_type types.now length element }
+{
+    let array = ValueType::Array(length, types.find(element)?);
+    if is_known(types, array) {
+        Some(array)
+    } else {
+        None
+    }
+}
+
+/// The type that an expression is, where it is the name of one.
 pub fn type_in(text: &[u8], scope: &Scope, e: &Expr) -> Option<ValueType>
     ensures { result ≡ type_in text.now (scope_of scope.now) (tree_of e.now) }
 {
@@ -49,12 +61,13 @@ pub fn type_in(text: &[u8], scope: &Scope, e: &Expr) -> Option<ValueType>
     }
 }
 
-fn declared_fault(declared: Option<Declared>, pos: Pos) -> Option<Fault>
+/// The fault of what a name stands for as a type: another type of the language, or no type.
+pub fn type_name_fault(declared: Option<Declared>, pos: Pos) -> Option<Fault>
     ensures { result ≡ type_name_fault declared pos }
 {
     let kind = match declared {
         None => FaultKind::Unknown,
-        Some(Declared::TypeName | Declared::Type(_)) => return None,
+        Some(Declared::Type(_)) => return None,
         Some(Declared::LeftOutType) => FaultKind::OutOfProfile,
         Some(_) => FaultKind::Unfit,
     };
@@ -66,7 +79,7 @@ fn declared_fault(declared: Option<Declared>, pos: Pos) -> Option<Fault>
 fn name_fault(text: &[u8], scope: &Scope, name: Name) -> Option<Fault>
     ensures { IsLeast (IsFault (type_name_fault (declaration (scope_of scope.now) (spelled text.now name)) name.pos)) result }
 {
-    declared_fault(scope.declaration(spelled(text, name)), name.pos)
+    type_name_fault(scope.declaration(spelled(text, name)), name.pos)
 }
 
 /// The fault of an expression as a type.

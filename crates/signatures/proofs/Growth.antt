@@ -34,16 +34,17 @@ Longer ds es = (more : List Declared) × (es ≡ ds ++ more) × AllByRecursion I
 abbrev pub Extends : List Site → List Site → Type 0
 Extends a b = (more : List Site) × (b ≡ a ++ more)
 
--- what a scope has of its package: the signatures of the functions, what is known of the constants and variables, the numbers of these, and
--- the types
+-- what a scope has of its package: the signatures of the functions, what is known of the constants and variables, the numbers of these, the
+-- types, and the fields of the structs
 pub record Package : Type 0 where
   pub signatures : List (Option Signature)
   pub values : List (Option Known)
   pub globals : List ℕ
   pub types : Table
+  pub fields : List Blocks
 
 abbrev pub package_of : Scope → Package
-package_of s = record { signatures = s.signatures; values = s.values; globals = s.globals; types = s.types }
+package_of s = record { signatures = s.signatures; values = s.values; globals = s.globals; types = s.types; fields = s.fields }
 
 -- the numbers of the names in a block, and in the innermost one, are not below one
 abbrev pub EntriesAbove : ℕ → Names → Type 0

@@ -11,16 +11,17 @@ use Rattle.syntax.specs.Declarations.{Field, Parameters, unnamed, named, TypeSpe
 use Rattle.syntax.specs.Declarations as tree
 use Rattle.base.specs.declared.pos.Pos.{Pos}
 use Rattle.base.specs.declared.value_type.ValueType.{ValueType}
-use Rattle.base.specs.declared.value_type.ValueType.TheVariants.{Int, Bool as Boolean}
+use Rattle.base.specs.declared.value_type.ValueType.TheVariants.{Int, Bool as Boolean, Struct}
 use Rattle.typed_syntax.specs.Syntax.{all_width}
 use Rattle.typed.specs.Tables.{Table}
 use Rattle.names.specs.declared.scope.External.{External as ExternalData}
 use Rattle.names.specs.declared.scope.External.TheVariants as external
 use Rattle.names.specs.declared.scope.Declared.{Declared}
-use Rattle.names.specs.declared.scope.Declared.TheVariants.{Untyped, Constant, Global, Function, External, TypeName}
+use Rattle.names.specs.declared.scope.Declared.TheVariants.{Untyped, Constant, Global, Function, External, «Type»}
 use Rattle.names.specs.Universe.{is_blank}
-use Rattle.names.specs.Scope.{Scope, Signature, type_trees, is_here, with_declaration, with_signature, with_value, with_global}
+use Rattle.names.specs.Scope.{Scope, Signature, type_trees, is_here, with_declaration, with_signature, with_value, with_global, with_struct}
 use Rattle.names.specs.Types.{type_in}
+use Rattle.signatures.specs.Structs.{fields_of_struct}
 use Rattle.signatures.specs.declared.slots.Slot.{Slot}
 
 -- ---- parameters and results one by one: names that share a type each have it
@@ -126,9 +127,13 @@ module _ (text : List ℕ) where
   with_values s [] = s
   with_values s (v ∷ vs) = with_values (with_names Untyped s v.names) vs
 
+  -- a struct with the next number: the fields of each struct are noted by their names, also of one whose own name is not declared
+  abbrev pub with_type : Scope → TypeSpec → Scope
+  with_type s t = with_struct (with_name («Type» (Struct (record { 0 = length s.fields }))) s t.name) (fields_of_struct text t.fields)
+
   abbrev pub with_types : Scope → List TypeSpec → Scope
   with_types s [] = s
-  with_types s (t ∷ ts) = with_types (with_name TypeName s t.name) ts
+  with_types s (t ∷ ts) = with_types (with_type s t) ts
 
   abbrev pub with_head : Scope → Declaration → Scope
   with_head s (constants pos specs) = with_values s specs

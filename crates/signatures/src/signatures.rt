@@ -5,17 +5,18 @@ ghost use Rattle.std.specs.Option.{option_map};
 ghost use Rattle.std.specs.Str.{bytes_eq};
 ghost use Rattle.syntax.specs.Expressions.{spelled};
 ghost use Rattle.syntax.specs.Statements.{value_specs_of};
-ghost use Rattle.syntax.specs.Declarations.{parameters_of, type_specs_of, function_of, declaration_of, declarations_of};
+ghost use Rattle.syntax.specs.Declarations.{parameters_of, type_spec_of, type_specs_of, function_of, declaration_of, declarations_of};
 ghost use Rattle.typed_syntax.specs.Syntax.{all_width};
 ghost use Rattle.names.specs.declared.scope.Declared.TheVariants.{Untyped as NoType};
 ghost use Rattle.names.specs.Universe.{is_blank};
 ghost use Rattle.names.specs.Scope.{scope_of, signature_of, type_trees, declaration, is_here};
-ghost use Rattle.signatures.specs.Signatures.{signature_in, is_init, declares_name, with_name, with_names, with_values, with_types, with_head, with_heads, with_constant_name, with_constant_names, with_constants, with_numbered_name, with_variable_name, with_variable_names, with_package_variables, with_function, with_item, with_items, is_number, may_be_named, is_small, is_named, words, takes_one_int, is_of_exit, gives_int_and_bool, is_of_read_int, external_named, is_external, is_external_at};
+ghost use Rattle.signatures.specs.Signatures.{signature_in, is_init, declares_name, with_name, with_names, with_values, with_type, with_types, with_head, with_heads, with_constant_name, with_constant_names, with_constants, with_numbered_name, with_variable_name, with_variable_names, with_package_variables, with_function, with_item, with_items, is_number, may_be_named, is_small, is_named, words, takes_one_int, is_of_exit, gives_int_and_bool, is_of_read_int, external_named, is_external, is_external_at};
 ghost use Rattle.signatures.specs.SignatureFaults.{function_name_fault, size_fault};
 
 use crate::failing::fault_where;
 use crate::slots::{is_named, slots_of, types_of};
-use base::{FuncId, NoMemory, Pos, ValueType};
+use crate::structs::fields_of_struct;
+use base::{FuncId, NoMemory, Pos, StructId, ValueType};
 use names::{Declared, External, GlobalId, Scope, Signature, ValueId, is_blank, spelled, type_id};
 use std::alloc::Global;
 use syntax::{Decl, Func, Name, TypeSpec, ValueSpec};
@@ -170,34 +171,69 @@ fn add_values(text: &[u8], scope: &mut Scope, specs: &[ValueSpec]) -> Result<(),
     Ok(())
 }
 
-/// Declares types.
-fn add_types(text: &[u8], scope: &mut Scope, specs: &[TypeSpec]) -> Result<(), NoMemory>
+/// The number of the next struct.
+fn next_struct(scope: &Scope) -> Result<StructId, NoMemory>
+    ensures { IfOk result (λ k. k.0 ≡ length (scope_of scope.now).fields) }
+{
+    match u32::try_from(scope.struct_count()) {
+        Ok(number) => Ok(StructId(number)),
+        Err(_) => Err(NoMemory),
+    }
+}
+
+/// Declares a struct with the next number. The fields of each struct are noted by their names, also where its own name isn't declared.
+fn add_type(alloc: Global, text: &[u8], scope: &mut Scope, spec: &TypeSpec) -> Result<(), NoMemory>
+    ensures { OnOk result (scope_of scope.new ≡ with_type text.now (scope_of scope.old) (type_spec_of spec.now)) }
+{
+    let number = next_struct(scope)?;
+    add_name(
+        text,
+        scope,
+        spec.name,
+        Declared::Type(ValueType::Struct(number)),
+    )?;
+    let fields = fields_of_struct(alloc, text, &spec.fields)?;
+    scope.add_struct(fields)
+}
+
+/// Declares structs. The fields of each struct are noted by their names.
+fn add_types(
+    alloc: Global,
+    text: &[u8],
+    scope: &mut Scope,
+    specs: &[TypeSpec],
+) -> Result<(), NoMemory>
     ensures { OnOk result (scope_of scope.new ≡ with_types text.now (scope_of scope.old) (type_specs_of specs.now)) }
 {
     for spec in specs {
-        add_name(text, scope, spec.name, Declared::TypeName)?;
+        add_type(alloc, text, scope, spec)?;
     }
     Ok(())
 }
 
 /// Declares the names of a declaration among those that tell what the types of heads stand for.
-fn add_head(text: &[u8], heads: &mut Scope, decl: &Decl) -> Result<(), NoMemory>
+fn add_head(alloc: Global, text: &[u8], heads: &mut Scope, decl: &Decl) -> Result<(), NoMemory>
     ensures { OnOk result (scope_of heads.new ≡ with_head text.now (scope_of heads.old) (declaration_of decl.now)) }
 {
     match decl {
         Decl::Const(_, specs) => add_values(text, heads, specs),
         Decl::Var(_, specs) => add_values(text, heads, specs),
-        Decl::Type(_, specs) => add_types(text, heads, specs),
+        Decl::Type(_, specs) => add_types(alloc, text, heads, specs),
         Decl::Func(f) => add_name(text, heads, f.name, Declared::Untyped),
     }
 }
 
-/// Declares the names of a package, which tell what the types of its heads stand for.
-pub fn add_heads(text: &[u8], heads: &mut Scope, decls: &[Decl]) -> Result<(), NoMemory>
+/// Declares the names of a package, which tell what the types of its heads stand for. The fields of each struct are noted by their names.
+pub fn add_heads(
+    alloc: Global,
+    text: &[u8],
+    heads: &mut Scope,
+    decls: &[Decl],
+) -> Result<(), NoMemory>
     ensures { OnOk result (scope_of heads.new ≡ with_heads text.now (scope_of heads.old) (declarations_of decls.now)) }
 {
     for decl in decls {
-        add_head(text, heads, decl)?;
+        add_head(alloc, text, heads, decl)?;
     }
     Ok(())
 }
@@ -331,12 +367,12 @@ fn add_item(
     match decl {
         Decl::Const(_, specs) => add_constants(text, scope, specs),
         Decl::Var(_, specs) => add_package_variables(text, scope, specs),
-        Decl::Type(_, specs) => add_types(text, scope, specs),
+        Decl::Type(_, specs) => add_types(alloc, text, scope, specs),
         Decl::Func(f) => add_function(alloc, text, heads, scope, f),
     }
 }
 
-/// Declares what a package does.
+/// Declares what a package does. The fields of each struct are noted by their names.
 pub fn add_items(
     alloc: Global,
     text: &[u8],

@@ -78,7 +78,6 @@ name_decided h s (Some (declared.Variable site t)) at whole typed = λ f k. k
 name_decided h s (Some (declared.Constant k)) at whole typed = constant_decided h (known s k.0) (fault NotAssignable whole)
 name_decided h s (Some (declared.Global k g)) at whole typed = known_decided h g.0 (known s k.0) (typed (declared.Global k g) refl)
 name_decided h s (Some declared.Untyped) at whole typed = absurd (typed declared.Untyped refl)
-name_decided h s (Some declared.TypeName) at whole typed = (fault Unfit at, refl)
 name_decided h s (Some (declared.«Type» t)) at whole typed = (fault Unfit at, refl)
 name_decided h s (Some declared.LeftOutType) at whole typed = (fault OutOfProfile at, refl)
 name_decided h s (Some declared.LeftOutValue) at whole typed = (fault OutOfProfile at, refl)

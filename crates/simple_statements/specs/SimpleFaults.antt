@@ -39,7 +39,6 @@ left_fault false None pos whole = Some (fault Unknown pos)
 left_fault false (Some (declared.Variable site t)) pos whole = None
 left_fault false (Some declared.Untyped) pos whole = None
 left_fault false (Some (declared.Global k g)) pos whole = None
-left_fault false (Some declared.TypeName) pos whole = Some (fault Unfit pos)
 left_fault false (Some (declared.«Type» t)) pos whole = Some (fault Unfit pos)
 left_fault false (Some declared.LeftOutType) pos whole = Some (fault OutOfProfile pos)
 left_fault false (Some declared.LeftOutValue) pos whole = Some (fault OutOfProfile pos)

@@ -132,7 +132,7 @@ pub fn left_fault_of(blank: bool, declared: Option<Declared>, pos: Pos, whole: P
     let (kind, pos) = match declared {
         None => (FaultKind::Unknown, pos),
         Some(Declared::Variable(_, _) | Declared::Untyped | Declared::Global(_, _)) => return None,
-        Some(Declared::TypeName | Declared::Type(_)) => (FaultKind::Unfit, pos),
+        Some(Declared::Type(_)) => (FaultKind::Unfit, pos),
         Some(Declared::LeftOutType | Declared::LeftOutValue) => (FaultKind::OutOfProfile, pos),
         Some(_) => (FaultKind::NotAssignable, whole),
     };
@@ -140,7 +140,6 @@ pub fn left_fault_of(blank: bool, declared: Option<Declared>, pos: Pos, whole: P
 }
 
 /// The fault of a name as a left side, which begins at a place.
-#[tactic(auto, using(type_faults::proofs::Leasts::leaf))]
 fn name_left_fault(text: &[u8], scope: &Scope, name: Name, whole: Pos) -> Option<Fault>
     ensures { IsLeast (IsFault (left_fault (is_blank (spelled text.now name)) (declaration (scope_of scope.now) (spelled text.now name)) name.pos whole)) result }
 {
@@ -239,7 +238,6 @@ fn own_fault_of(blank: bool, declared: Option<Declared>, pos: Pos, whole: Pos) -
 }
 
 /// The fault of a name whose value is asked for, as a left side that begins at a place.
-#[tactic(auto, using(type_faults::proofs::Leasts::leaf))]
 fn name_own_fault(text: &[u8], scope: &Scope, name: Name, whole: Pos) -> Option<Fault>
     ensures { IsLeast (IsFault (own_fault (is_blank (spelled text.now name)) (declaration (scope_of scope.now) (spelled text.now name)) name.pos whole)) result }
 {

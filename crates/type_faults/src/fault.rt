@@ -33,11 +33,15 @@ pub enum FaultKind {
     MissingReturn,
     /// A constant that an int cannot hold, or that leaves 128 bits.
     ConstRange,
+    /// A constant length or index that is out of range.
+    ConstIndex,
     /// What does not fit its place: a value for a type, a type or a built-in function for a value, an operand that its operator doesn't
     /// take, a condition that is none, `...` after arguments, a shift by a negative count.
     Unfit,
     /// A constant that needs itself.
     SelfReference,
+    /// An array type without elements.
+    ZeroSize,
     /// A `break` or `continue` outside of a loop.
     BreakOutside,
     /// A package other than `main`, or one without a function `main` that has no parameters and results.
@@ -46,7 +50,7 @@ pub enum FaultKind {
     BadExternal,
     /// A form or a name of Go that the profile leaves out.
     OutOfProfile,
-    /// More functions than 4,096, or one with more than 65,535 words of arguments and results.
+    /// A type with more than 65,535 words; more functions than 4,096, or one with more than 65,535 words of arguments and results.
     TooLarge,
     /// A constant divided by a constant that is zero.
     ConstZeroDivisor,
@@ -69,8 +73,10 @@ impl FaultKind {
             FaultKind::NotUsedValue => 10,
             FaultKind::MissingReturn => 11,
             FaultKind::ConstRange => 12,
+            FaultKind::ConstIndex => 13,
             FaultKind::Unfit => 14,
             FaultKind::SelfReference => 15,
+            FaultKind::ZeroSize => 16,
             FaultKind::BreakOutside => 17,
             FaultKind::NoMain => 18,
             FaultKind::BadExternal => 19,

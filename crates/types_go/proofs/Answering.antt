@@ -28,12 +28,13 @@ use Rattle.type_faults.proofs.Leasts.{least_join}
 use Rattle.type_faults.proofs.Options.{none_some, same_some}
 use Rattle.names.specs.Blocks.{Blocks, insert}
 use Rattle.names.specs.declared.scope.Declared.{Declared}
-use Rattle.names.specs.declared.scope.Declared.TheVariants.{Constant, Global, Function, External, TypeName}
+use Rattle.base.specs.declared.value_type.ValueType.TheVariants.{Struct}
+use Rattle.names.specs.declared.scope.Declared.TheVariants.{Constant, Global, Function, External, «Type»}
 use Rattle.names.specs.Universe.{is_blank, is_main}
 use Rattle.names.specs.Scope.{Scope, declaration, with_declaration, with_signature, with_value, beginning}
 use Rattle.package_values.specs.Values.{Item, items_in, settled}
 use Rattle.package_values.specs.ValueFaults.{ItemsFail}
-use Rattle.signatures.specs.Signatures.{declares_name, external_named, is_external, signature_in, with_name, with_types, with_heads, with_constant_name, with_constant_names, with_constants, with_numbered_name, with_variable_name, with_variable_names, with_package_variables, with_item, with_items}
+use Rattle.signatures.specs.Signatures.{declares_name, external_named, is_external, signature_in, with_name, with_type, with_types, with_heads, with_constant_name, with_constant_names, with_constants, with_numbered_name, with_variable_name, with_variable_names, with_package_variables, with_item, with_items}
 use Rattle.signatures.specs.Failing.{fault_where}
 use Rattle.function_heads.specs.Heads.{number_of, plain_number, functions_in, are_supported}
 use Rattle.types_go.specs.Functions.{Member, members_in, functions, declarations_in, heads_of, numbered_functions, members, package_scope, main_number, program_functions}
@@ -58,7 +59,7 @@ name_depth text d s n = by (declares_name s (spelled text n))
 
 types_depth : (text : List ℕ) (s : Scope) (ts : List TypeSpec) → length (with_types text s ts).blocks ≡ length s.blocks
 types_depth text s [] = refl
-types_depth text s (t ∷ ts) = types_depth text (with_name text TypeName s t.name) ts ∙ name_depth text TypeName s t.name
+types_depth text s (t ∷ ts) = types_depth text (with_type text s t) ts ∙ name_depth text («Type» (Struct (record { 0 = length s.fields }))) s t.name
 
 constant_names_depth : (text : List ℕ) (s : Scope) (ns : List Name) → length (with_constant_names text s ns).blocks ≡ length s.blocks
 constant_names_depth text s [] = refl

@@ -9,13 +9,14 @@ use Rattle.names.specs.declared.scope.Known.{Known}
 use Rattle.syntax.specs.Declarations.{TypeSpec, Function as TreeFunction, Declaration, constants, variables, types}
 use Rattle.syntax.specs.Declarations as tree
 use Rattle.type_faults.proofs.Options.{map_some, none_some, same_some}
-use Rattle.names.specs.declared.scope.Declared.TheVariants.{Constant, Global, Function, External, TypeName}
+use Rattle.base.specs.declared.value_type.ValueType.TheVariants.{Struct}
+use Rattle.names.specs.declared.scope.Declared.TheVariants.{Constant, Global, Function, External, «Type»}
 use Rattle.names.specs.Universe.{is_blank}
 use Rattle.names.specs.Scope.{Scope, Signature, with_declaration, with_signature, with_value, with_global, with_known}
 use Rattle.package_values.specs.declared.items.Role.{Role}
 use Rattle.package_values.specs.declared.items.Role.TheVariants as role
 use Rattle.package_values.specs.Values.{Item, unvalued, paired, or_unvalued, items_of, items_in_specs, items_in, given, look, looks, settled}
-use Rattle.signatures.specs.Signatures.{declares_name, external_named, is_external, signature_in, with_constant_name, with_constant_names, with_constants, with_variable_name, with_variable_names, with_package_variables, with_name, with_types, with_function, with_items}
+use Rattle.signatures.specs.Signatures.{declares_name, external_named, is_external, signature_in, with_constant_name, with_constant_names, with_constants, with_variable_name, with_variable_names, with_package_variables, with_name, with_type, with_types, with_function, with_items}
 use Rattle.function_heads.specs.Heads.{functions_in, is_supported, are_supported}
 
 pub both_second : (a b : Bool) → (a && b) ≡ true → b ≡ true
@@ -226,9 +227,9 @@ module _ (text : List ℕ) (heads : Scope) where
 
   types_values : (s : Scope) (ts : List TypeSpec) → (with_types text s ts).values ≡ s.values
   types_values s [] = refl
-  types_values s (t ∷ ts) = types_values (with_name text TypeName s t.name) ts ∙ by (declares_name s (spelled text t.name))
+  types_values s (t ∷ ts) = types_values (with_type text s t) ts ∙ by (declares_name s (spelled text t.name))
     where
-      by : (b : Bool) → (cond b (with_declaration s (spelled text t.name) TypeName) s).values ≡ s.values
+      by : (b : Bool) → (cond b (with_declaration s (spelled text t.name) («Type» (Struct (record { 0 = length s.fields })))) s).values ≡ s.values
       by true = refl
       by false = refl
 

@@ -22,7 +22,7 @@ use Rattle.type_faults.proofs.Decided.{Decided, Tested, further, same, mapped, a
 use Rattle.type_faults.proofs.Options.{and_then_some, map_some, none_some, same_some}
 use Rattle.names.specs.Blocks.{lookup}
 use Rattle.names.specs.declared.scope.Declared.{Declared}
-use Rattle.names.specs.declared.scope.Declared.TheVariants.{Untyped, Constant, Global, Function, External, TypeName}
+use Rattle.names.specs.declared.scope.Declared.TheVariants.{Untyped, Constant, Global, Function, External}
 use Rattle.names.specs.declared.scope.Declared.TheVariants as declared
 use Rattle.names.specs.declared.scope.Known.{Known}
 use Rattle.names.specs.Universe.{is_blank}
@@ -73,7 +73,6 @@ small_tested T (Some sig) at P d = by (nat_le (words T sig) 65535)
 -- ---- where the program declares no type of its own
 
 abbrev IsOfLanguage : Table → Declared → Type 0
-IsOfLanguage T TypeName = ⊥
 IsOfLanguage T (declared.«Type» t) = is_known T t ≡ true
 IsOfLanguage T other = ⊤
 
@@ -100,7 +99,6 @@ known_decided t false is = cc is
 
 type_name_decided : (T : Table) (d : Option Declared) (at : Pos) → ((x : Declared) → d ≡ Some x → IsOfLanguage T x) → Decided (declared_type T d) (IsFault (type_name_fault d at))
 type_name_decided T None at known = (fault Unknown at, refl)
-type_name_decided T (Some TypeName) at known = absurd (known TypeName refl)
 type_name_decided T (Some (declared.«Type» t)) at known = known_decided t (is_known T t) (known (declared.«Type» t) refl)
 type_name_decided T (Some declared.LeftOutType) at known = (fault OutOfProfile at, refl)
 type_name_decided T (Some other) at known = (fault Unfit at, refl)

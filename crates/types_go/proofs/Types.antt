@@ -1,15 +1,16 @@
 -- The names of a package and its block keep the types with which they begin.
-use Rattle.std.proofs.Common.{◌≡◌, ℕ, Bool, true, false, cond, List, [], ◌∷◌, refl, ◌∙◌}
+use Rattle.std.proofs.Common.{◌≡◌, ℕ, Bool, true, false, cond, List, [], ◌∷◌, length, refl, ◌∙◌}
 use Rattle.syntax.specs.declared.expression.Name.{Name}
 use Rattle.syntax.specs.Expressions.{spelled}
 use Rattle.syntax.specs.Statements.{ValueSpec}
 use Rattle.syntax.specs.Declarations.{TypeSpec, Function as TreeFunction, Declaration, constants, variables, types}
 use Rattle.syntax.specs.Declarations as tree
 use Rattle.names.specs.declared.scope.Declared.{Declared}
-use Rattle.names.specs.declared.scope.Declared.TheVariants.{Untyped, TypeName}
+use Rattle.base.specs.declared.value_type.ValueType.TheVariants.{Struct}
+use Rattle.names.specs.declared.scope.Declared.TheVariants.{Untyped, «Type»}
 use Rattle.names.specs.Scope.{Scope, basic_table, with_declaration, beginning}
 use Rattle.package_values.specs.Values.{items_in, settled}
-use Rattle.signatures.specs.Signatures.{declares_name, with_name, with_names, with_values, with_types, with_heads, with_items}
+use Rattle.signatures.specs.Signatures.{declares_name, with_name, with_names, with_values, with_type, with_types, with_heads, with_items}
 use Rattle.function_heads.specs.Heads.{are_supported}
 use Rattle.types_go.proofs.Package.{constant_one, variable_one, declared_one, items_kept, settled_kept}
 
@@ -31,7 +32,7 @@ module _ (text : List ℕ) where
 
   types_types : (s : Scope) (ts : List TypeSpec) → (with_types text s ts).types ≡ s.types
   types_types s [] = refl
-  types_types s (t ∷ ts) = types_types (with_name text TypeName s t.name) ts ∙ name_types TypeName s t.name
+  types_types s (t ∷ ts) = types_types (with_type text s t) ts ∙ name_types («Type» (Struct (record { 0 = length s.fields }))) s t.name
 
   pub heads_types : (s : Scope) (ds : List Declaration) → (with_heads text s ds).types ≡ s.types
   heads_types s [] = refl

@@ -88,7 +88,7 @@ fn pass(alloc: Global, tree: &Tree) -> Result<Passed, NoMemory>
     let text: &[u8] = &tree.text;
     let decls: &[Decl] = &tree.decls;
     let mut heads = beginning(alloc)?;
-    add_heads(text, &mut heads, decls)?;
+    add_heads(alloc, text, &mut heads, decls)?;
     let mut scope = package_block(alloc, text, &heads, decls)?;
     let main = main_number(alloc, text, &heads, &scope, tree.package, decls)?;
     let declared = package_fault(alloc, text, &heads, &scope, decls)?;

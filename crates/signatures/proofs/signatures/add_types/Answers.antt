@@ -13,7 +13,7 @@ loop-spec-preserved c =
     let k = c.loop-spec.spec-index in
     let x : TypeSpec = c.spec-item.result in
     let here : drop k xs ≡ x ∷ drop (k + 1) xs = from_one xs k x c.loop-spec-test.true c.spec-item.is in
-    rw (c.in_ok-add_name.ensures) (c.loop-spec.invariant ∙ ap (λ (l : List TypeSpec). with_types text (scope_of c.loop-spec.scope) (type_specs_of l)) here)
+    rw (c.in_ok-add_type.ensures) (c.loop-spec.invariant ∙ ap (λ (l : List TypeSpec). with_types text (scope_of c.loop-spec.scope) (type_specs_of l)) here)
 
 pub returns : goal.returns
 returns c =
