@@ -1,5 +1,5 @@
 -- Expressions side by side: where each gives something, their values are decided.
-use Rattle.std.proofs.Common.{◌≡◌, ℕ, zero, suc, Bool, true, false, cond, List, [], ◌∷◌, ◌⊎◌, inl, inr, Option, Some, None, refl, sym, ap, ◌∙◌, length, arith, subst}
+use Rattle.std.proofs.Common.{◌≡◌, ℕ, suc, Bool, true, false, cond, List, [], ◌∷◌, ◌⊎◌, inl, inr, Option, Some, None, refl, sym, ap, ◌∙◌, length, arith, subst}
 use Rattle.std.specs.Prelude.{⊤, option_and_then, is_some, is_none, nat_le, ◌≤◌, not, ◌&&◌, ◌==◌}
 use Rattle.std.specs.Option.{option_map}
 use Rattle.std.proofs.lemmas.Bool.{eqb-true, leb-true}
@@ -23,7 +23,7 @@ use Rattle.type_faults.proofs.Options.{and_then_some, map_some, none_some, same_
 use Rattle.operators.specs.Operands.{Operand, constant, value, nil, type_of, constant_value, as_value}
 use Rattle.expression_types.specs.declared.wants.Wanted.{Wanted}
 use Rattle.expression_types.specs.declared.wants.Wanted.TheVariants as wants
-use Rattle.expression_types.specs.Typing.{Part, valued, Gives, one, called, asking, quoted, printed, panicked, exited, Seen, Many, single, operand_in, value_in, type_in_one, shown_type, shown_of, as_part, part_in, is_part, listed, values, parts, are_single, are_parts, is_shown, are_shown, part_count, many_in, many, count_of, count, each, types_agree, values_agree, fits_with, fits, all_values, taken, types_with, value_types, single_types, taken_types, panicked_with, exit_places, exited_with}
+use Rattle.expression_types.specs.Typing.{Part, valued, Gives, one, called, asking, quoted, printed, panicked, exited, Seen, Many, single, operand_in, value_in, shown_of, as_part, part_in, is_part, listed, values, parts, are_single, are_parts, is_shown, are_shown, part_count, many_in, many, count_of, count, each, types_agree, values_agree, fits_with, fits, all_values, taken, types_with, value_types, single_types, taken_types, panicked_with, exit_places, exited_with}
 use Rattle.expression_types.specs.Faults.{single_fault, part_fault, SinglesFail, PartsFail, ValuesFail, range_fault, RangeFails, SidesFail, placed_range_fault, TypesFail, results_fault, MismatchFails, CountFails, TakeFails, refused_fault, shown_fault, PrintFails}
 use Rattle.type_faults.proofs.Lists.{and_true}
 use Rattle.expression_types.proofs.Places.{Asks, AllAsk, agree_tested}

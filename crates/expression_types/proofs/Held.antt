@@ -6,19 +6,25 @@ use Rattle.base.specs.declared.pos.Pos.{Pos}
 use Rattle.syntax.specs.declared.operator.BinOp.{BinOp}
 use Rattle.syntax.specs.declared.operator.UnOp.{UnOp}
 use Rattle.syntax.specs.FirstBytes.{first_pos}
-use Rattle.syntax.specs.Expressions.{Ex as TreeEx, number, string, name, unary, binary, paren, call, selector, index, slice, array_type, slice_type, literal, elements, spelled}
+use Rattle.syntax.specs.Expressions.{Ex as TreeEx, number, string, name, unary, binary, paren, call, selector, index, slice, array_type, slice_type, literal, elements, Elements as TreeElements, spelled}
 use Rattle.typed_syntax.specs.Syntax.{Ex, Exs}
 use Rattle.constants.specs.declared.constant.Constant.TheVariants.{Number}
 use Rattle.base.specs.declared.value_type.ValueType.{ValueType}
 use Rattle.constants.specs.Constants.{untyped}
 use Rattle.type_faults.specs.Given.{allowed, both}
-use Rattle.type_faults.proofs.Options.{and_then_some, none_some, same_some}
+use Rattle.type_faults.proofs.Options.{and_then_some, map_some, none_some, same_some}
 use Rattle.operators.specs.Operands.{Operand, constant}
 use Rattle.operators.specs.Operators.{has_rules, prefixed, combined}
 use Rattle.operators.proofs.Held.{IsHeld, prefixed_held, pair_held}
+use Rattle.typed.specs.Tables.{Table}
+use Rattle.syntax.specs.declared.expression.Name.{Name}
+use Rattle.operand_parts.specs.Parts.{selected, indexed}
+use Rattle.operand_parts.specs.Literals.{shape_fits}
+use Rattle.operand_parts.specs.LiteralValues.{Placed, part_values, literal_with, composed}
+use Rattle.operand_parts.proofs.HeldParts.{selected_held, indexed_held}
 use Rattle.names.specs.Scope.{Scope, declaration}
 use Rattle.names.specs.Naming.{name_in}
-use Rattle.expression_types.specs.Typing.{Part, one, called, asking, printed, name_operand, prefix_gives, pair_gives, operand_in, Seen, parts, values, fits, taken, Callee, printer, panicker, reader, exiter, function, conversion, no_function, no_spread, no_text_spread, nothing, exit_places, panicked_with, exited_with, called_with, spread_over, callee, gives, seen}
+use Rattle.expression_types.specs.Typing.{Part, one, called, asking, printed, name_operand, prefix_gives, pair_gives, operand_in, Seen, parts, values, fits, taken, Callee, printer, panicker, reader, exiter, function, conversion, no_function, no_spread, no_text_spread, nothing, exit_places, panicked_with, exited_with, called_with, spread_over, callee, gives, seen, stated_type, placed, literal_given}
 
 single_one : (o : Option Operand) (P : Operand → Type 0) (x : Operand) → ((y : Operand) → o ≡ Some y → P y) → operand_in (option_map one o) ≡ Some x → P x
 single_one None P x held is = absurd (none_some is)
@@ -32,6 +38,20 @@ binary_held : (at : Pos) (op : BinOp) (a b : Option Operand) (x : Operand) → o
 binary_held at op a b x is =
     single_one (both (combined at op) a b) IsHeld x (λ y e.
     let q = and_then_some (λ z. option_and_then (combined at op z) b) a y e in let r = and_then_some (combined at op q.0) b y q.2 in pair_held at op q.0 r.0 y r.2) is
+
+-- a part is no constant
+selector_held : (text : List ℕ) (s : Scope) (n : Name) (o : Option Operand) (x : Operand) → operand_in (option_map one (option_and_then (selected text s n) o)) ≡ Some x → IsHeld x
+selector_held text s n o x is = single_one (option_and_then (selected text s n) o) IsHeld x (λ y e. let r = and_then_some (selected text s n) o y e in selected_held text s n r.0 y r.2) is
+
+index_held : (T : Table) (at : Pos) (a b : Option Operand) (x : Operand) → operand_in (option_map one (both (indexed T at) a b)) ≡ Some x → IsHeld x
+index_held T at a b x is =
+    single_one (both (indexed T at) a b) IsHeld x (λ y e.
+    let q = and_then_some (λ z. option_and_then (indexed T at z) b) a y e in let r = and_then_some (indexed T at q.0) b y q.2 in indexed_held T at q.0 r.0 y r.2) is
+
+literal_held : (text : List ℕ) (s : Scope) (o : Option ValueType) (es : TreeElements) (qs : List Placed) (x : Operand) → operand_in (literal_given text s o es qs) ≡ Some x → IsHeld x
+literal_held text s None es qs x is = absurd (none_some is)
+literal_held text s (Some t) es qs x is =
+    single_one (composed s.types t (shape_fits text s t es) qs) IsHeld x (λ y e. let m = map_some (literal_with s.types t) (allowed (shape_fits text s t es) (part_values qs)) y e in subst IsHeld m.2 tt) is
 
 -- a call gives no constant: one result of a function, or no single value
 called_held : (at : Pos) (ts : List ValueType) (f : ℕ) (es : Exs) (x : Operand) → operand_in (Some (called at ts f es)) ≡ Some x → IsHeld x
@@ -89,10 +109,10 @@ module _ (text : List ℕ) (s : Scope) (names_held : (n : List ℕ) (x : Operand
   operand_held (binary at op a b) x is = binary_held at op (operand_in (gives text s a)) (operand_in (gives text s b)) x is
   operand_held (paren at e) x is = operand_held e x is
   operand_held (call f es spread) x is = call_held (first_pos f) (spread_over spread (callee text s (name_in f) (gives text s f))) (seen text s es) x is
-  operand_held (selector e at n) x is = absurd (none_some is)
-  operand_held (index e at i) x is = absurd (none_some is)
+  operand_held (selector e at n) x is = selector_held text s n (operand_in (gives text s e)) x is
+  operand_held (index e at i) x is = index_held s.types at (operand_in (gives text s e)) (operand_in (gives text s i)) x is
   operand_held (slice e at low high) x is = absurd (none_some is)
   operand_held (array_type at len e) x is = absurd (none_some is)
   operand_held (slice_type at e) x is = absurd (none_some is)
-  operand_held (literal e es) x is = absurd (none_some is)
+  operand_held (literal e es) x is = literal_held text s (stated_type text s e) es (placed text s (stated_type text s e) 0 es) x is
   operand_held (elements at es) x is = absurd (none_some is)

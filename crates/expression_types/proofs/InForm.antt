@@ -1,6 +1,6 @@
 -- What expressions give is in form: what they read is in scope and has its type, constants are words, and operators and calls have operands
 -- of the types that they take.
-use Rattle.std.proofs.Common.{◌≡◌, ◌<◌, ℕ, ◌^◌, ℤ, pos, Bool, true, false, cond, List, [], ◌∷◌, inl, inr, Option, Some, None, Result, refl, sym, ap, ap₂, ◌∙◌, subst, arith, length}
+use Rattle.std.proofs.Common.{◌≡◌, ◌<◌, ℕ, ◌+◌, ◌^◌, ℤ, pos, Bool, true, false, cond, List, [], ◌∷◌, inl, inr, Option, Some, None, Result, refl, sym, ap, ap₂, ◌∙◌, subst, arith, length}
 use Rattle.std.specs.Prelude.{option_and_then, nat_lt, nat_le, slice_get, ◌==◌, ◌&&◌}
 use Rattle.std.specs.Option.{option_map}
 use Rattle.std.proofs.lemmas.Int.{ints as int_lemmas}
@@ -17,7 +17,7 @@ use Rattle.syntax.specs.declared.operator.UnOp.{UnOp}
 use Rattle.syntax.specs.declared.operator.UnOp.TheVariants.{Plus, Negate, Complement, Not}
 use Rattle.syntax.specs.declared.expression.Name.{Name}
 use Rattle.syntax.specs.FirstBytes.{first_pos}
-use Rattle.syntax.specs.Expressions.{Ex as TreeEx, Exs as TreeExs, number, string, name, unary, binary, paren, call, selector, index, slice, array_type, slice_type, literal, elements, some, spelled}
+use Rattle.syntax.specs.Expressions.{Ex as TreeEx, Exs as TreeExs, number, string, name, unary, binary, paren, call, selector, index, slice, array_type, slice_type, literal, elements, some, Elements as TreeElements, no_elements, element, spelled}
 use Rattle.syntax.specs.Expressions as tree
 use Rattle.typed_syntax.specs.declared.operators.UnOp.{UnOp as TypedPrefix}
 use Rattle.typed.specs.declared.program.Site.{Site}
@@ -51,6 +51,12 @@ use Rattle.names.specs.declared.scope.GlobalId.{GlobalId}
 use Rattle.names.specs.declared.scope.Declared.TheVariants as declared
 use Rattle.names.specs.declared.scope.External.TheVariants.{ReadInt, Exit}
 use Rattle.names.specs.Scope.{Scope, Signature, type_number, type_tree, type_trees, declaration, signature, known}
+use Rattle.operand_parts.specs.Parts.{selected, indexed}
+use Rattle.operand_parts.specs.Literals.{type_elided, elided, element_part, shape_fits}
+use Rattle.operand_parts.specs.LiteralValues.{Placed, PartValue, value_of_part, part_values, composed}
+use Rattle.operand_parts.proofs.ElementValues.{ValueFits, ValuesFit, value_fits as element_value_fits, literal_fits, composed_given, part_value_given}
+use Rattle.operand_parts.proofs.PartsFit.{IsFitting, element_fits, operand_indexed_fits, selected_fits}
+use Rattle.names.specs.declared.fields.Part.{Part as WholePart}
 use Rattle.names.specs.Naming.{name_in}
 use Rattle.names.specs.declared.scope.Known.{Known}
 use Rattle.names.specs.declared.scope.Known.TheVariants as known_as
@@ -58,7 +64,7 @@ use Rattle.names.proofs.Settled.{IsSound, AreSound}
 use Rattle.names.proofs.Trees.{int_tree, bool_tree, solid}
 use Rattle.expression_types.specs.declared.wants.Wanted.{Wanted}
 use Rattle.expression_types.specs.declared.wants.Wanted.TheVariants as wants
-use Rattle.expression_types.specs.Typing.{Part, said, valued, Gives, one, called, asking, quoted, printed, panicked, exited, known_type, global_read, constant_read, name_operand, prefix_gives, pair_gives, single, operand_in, value_in, shown_type, shown_of, as_part, part_in, Seen, values, parts, type_in_one, single_types, Many, many_in, many, types_with, value_types, accepts, types_agree, accepts_operand, operand_agrees, values_agree, each, fits_with, fits, all_values, taken, asked, Callee, printer, panicker, reader, exiter, function, conversion, no_function, no_spread, no_text_spread, nothing, function_with, callee_declared, callee_value, spread_over, panicked_with, exit_places, exited_with, called_with, as_condition, callee, gives, seen, condition, test}
+use Rattle.expression_types.specs.Typing.{Part, said, valued, Gives, one, called, asking, quoted, printed, panicked, exited, known_type, global_read, constant_read, name_operand, prefix_gives, pair_gives, single, operand_in, value_in, shown_type, shown_of, as_part, part_in, Seen, values, parts, type_in_one, single_types, Many, many_in, many, types_with, value_types, accepts, types_agree, accepts_operand, operand_agrees, values_agree, each, fits_with, fits, all_values, taken, asked, Callee, printer, panicker, reader, exiter, function, conversion, no_function, no_spread, no_text_spread, nothing, function_with, callee_declared, callee_value, spread_over, panicked_with, exit_places, exited_with, called_with, as_condition, callee, gives, seen, stated_type, placed, literal_given, condition, test}
 use Rattle.expression_types.proofs.DecidedValues.{many_single}
 
 is_word : (z : ℤ) → is_int z ≡ true → IsWord (int z)
@@ -556,7 +562,6 @@ module _ (p : Program) (scope : List ℕ) (text : List ℕ) (s : Scope) (are_sho
   name_fits (Some (declared.Global k h)) g has at is = global_fits h.0 k.0 (known s k.0) g refl (at k h refl) is
   name_fits (Some (declared.Function f)) g has at is = absurd (none_some is)
   name_fits (Some (declared.External e place)) g has at is = absurd (none_some is)
-  name_fits (Some declared.TypeName) g has at is = absurd (none_some is)
   name_fits (Some (declared.«Type» t)) g has at is = absurd (none_some is)
   name_fits (Some (declared.Truth b)) g has at is = subst Fits (same_some is) refl
   name_fits (Some declared.Nil) g has at is = subst Fits (same_some is) tt
@@ -582,7 +587,6 @@ module _ (p : Program) (scope : List ℕ) (text : List ℕ) (s : Scope) (are_sho
   declared_fits (Some (declared.Function f)) = callee_signed f.0 (signature s f.0) refl
   declared_fits (Some (declared.External ReadInt at)) = tt
   declared_fits (Some (declared.External Exit at)) = tt
-  declared_fits (Some declared.TypeName) = tt
   declared_fits (Some (declared.«Type» t)) = tt
   declared_fits (Some (declared.Truth b)) = tt
   declared_fits (Some declared.Nil) = tt
@@ -622,6 +626,97 @@ module _ (p : Program) (scope : List ℕ) (text : List ℕ) (s : Scope) (are_sho
       let k = and_then_some (combined at op q.0) b r.0 q.2 in
       subst Fits r.2 (pair_fits s.types p scope agrees.formed at op q.0 k.0 r.0 (left q.0 q.1) (right k.0 k.1) k.2)
 
+  -- a part
+  fitting_part : (y : Operand) → IsFitting p scope s.types y → Operates y
+  fitting_part y f = subst Operates (sym f.2) f.3
+
+  selected_one_fits : (n : Name) (x y : Operand) → Operates x → selected text s n x ≡ Some y → Operates y
+  selected_one_fits n (constant f) y fits is = absurd (none_some is)
+  selected_one_fits n nil y fits is = absurd (none_some is)
+  selected_one_fits n (value t e) y fits is = fitting_part y (selected_fits p scope text s agrees.formed agrees.types n t e fits y is)
+
+  selector_fits : (n : Name) (a : Option Operand) (g : Gives) → ((x : Operand) → a ≡ Some x → Operates x) → option_map one (option_and_then (selected text s n) a) ≡ Some g → Fits g
+  selector_fits n a g fits is =
+      let r = map_some one (option_and_then (selected text s n) a) g is in
+      let q = and_then_some (selected text s n) a r.0 r.1 in
+      subst Fits r.2 (selected_one_fits n q.0 r.0 (fits q.0 q.1) q.2)
+
+  index_fits : (at : Pos) (a b : Option Operand) (g : Gives) → ((x : Operand) → a ≡ Some x → Operates x) → ((x : Operand) → b ≡ Some x → Operates x) → option_map one (both (indexed s.types at) a b) ≡ Some g → Fits g
+  index_fits at a b g left right is =
+      let r = map_some one (both (indexed s.types at) a b) g is in
+      let q = and_then_some (λ x. option_and_then (indexed s.types at x) b) a r.0 r.1 in
+      let k = and_then_some (indexed s.types at q.0) b r.0 q.2 in
+      let whole = left q.0 q.1 in
+      let index1 = right k.0 k.1 in
+      subst Fits r.2
+      (fitting_part r.0 (operand_indexed_fits p scope s.types agrees.formed agrees.types at q.0 k.0 r.0 (λ t x h. subst Operates h whole) (λ t x h. subst Operates h index1) k.2))
+
+  -- a composite literal, by the values of its elements
+  literal_gives_fit : (o : Option ValueType) (es : TreeElements) (g : Gives) → ((t : ValueType) (vs : List PartValue) → part_values (placed text s (Some t) 0 es) ≡ Some vs → ValuesFit p scope s.types agrees.formed agrees.types t vs)
+      → literal_given text s o es (placed text s o 0 es) ≡ Some g → Fits g
+  literal_gives_fit None es g all is = absurd (none_some is)
+  literal_gives_fit (Some t) es g all is =
+      let m = map_some one (composed s.types t (shape_fits text s t es) (placed text s (Some t) 0 es)) g is in
+      let c = composed_given p scope s.types agrees.formed agrees.types t (shape_fits text s t es) (placed text s (Some t) 0 es) m.0 m.1 in
+      subst Fits m.2 (subst Operates (sym c.3) (literal_fits p scope s.types agrees.formed agrees.types t c.1 (all t c.1 c.2)))
+
+  -- one more element
+  cons_fits : (t : ValueType) (n : ℕ) (key : Option Name) (rest : TreeElements) (q : Placed) (vs : List PartValue) → q.part ≡ element_part text s (Some t) n key
+      → ((y : Operand) → q.operand ≡ Some y → Operates y)
+      → ((ws : List PartValue) → part_values (placed text s (Some t) (1 + n) rest) ≡ Some ws → ValuesFit p scope s.types agrees.formed agrees.types t ws)
+      → part_values (q ∷ placed text s (Some t) (1 + n) rest) ≡ Some vs → ValuesFit p scope s.types agrees.formed agrees.types t vs
+  cons_fits t n key rest q vs part_is1 fits all is =
+      let a = and_then_some (λ v. option_map (λ ws. v ∷ ws) (part_values (placed text s (Some t) (1 + n) rest))) (value_of_part q.part q.operand) vs is in
+      let b = map_some (λ ws. a.0 ∷ ws) (part_values (placed text s (Some t) (1 + n) rest)) vs a.2 in
+      let g = part_value_given p scope s.types agrees.formed agrees.types t q a.0 a.1 in
+      let f : WholePart = g.0 in
+      let y : Operand = g.1 in
+      let e : Ex = g.2 in
+      let fit : ExFits p scope (type_tree s.types f.value_type) e = value_fits s.types p scope agrees.formed y f.value_type e (assigned_type f.value_type y g.5) (fits y g.4) g.6 in
+      let one1 = element_value_fits p scope s.types agrees.formed agrees.types t f (element_fits text s agrees.formed t n key f (sym part_is1 ∙ g.3)) e fit in
+      subst (ValuesFit p scope s.types agrees.formed agrees.types t) b.2 (subst (ValueFits p scope s.types agrees.formed agrees.types t) (sym g.7) one1, all b.0 b.1)
+
+  bare_fits : (t : ValueType) (n : ℕ) (key : Option Name) (at : Pos) (es rest : TreeElements) (vs : List PartValue)
+      → ((u : ValueType) (ws : List PartValue) → part_values (placed text s (Some u) 0 es) ≡ Some ws → ValuesFit p scope s.types agrees.formed agrees.types u ws)
+      → ((ws : List PartValue) → part_values (placed text s (Some t) (1 + n) rest) ≡ Some ws → ValuesFit p scope s.types agrees.formed agrees.types t ws)
+      → part_values (placed text s (Some t) n (element key (elements at es) rest)) ≡ Some vs → ValuesFit p scope s.types agrees.formed agrees.types t vs
+  bare_fits t n key at es rest vs inner all is =
+      let o = type_elided (elided s.types (Some t)) in
+      let g = literal_given text s o es (placed text s o 0 es) in
+      cons_fits t n key rest (record { part = element_part text s (Some t) n key; at = at; operand = operand_in g }) vs refl
+      (λ y h. operand_fits s.types p scope g y (maybe_fits s.types p scope g (λ k j. literal_gives_fit o es k inner j)) h) all is
+
+  one_more_fits : (t : ValueType) (n : ℕ) (key : Option Name) (e : TreeEx) (rest : TreeElements) (vs : List PartValue) → ((g : Gives) → gives text s e ≡ Some g → Fits g)
+      → ((ws : List PartValue) → part_values (placed text s (Some t) (1 + n) rest) ≡ Some ws → ValuesFit p scope s.types agrees.formed agrees.types t ws)
+      → part_values (record { part = element_part text s (Some t) n key; at = first_pos e; operand = operand_in (gives text s e) } ∷ placed text s (Some t) (1 + n) rest) ≡ Some vs
+      → ValuesFit p scope s.types agrees.formed agrees.types t vs
+  one_more_fits t n key e rest vs fits all is =
+      cons_fits t n key rest (record { part = element_part text s (Some t) n key; at = first_pos e; operand = operand_in (gives text s e) }) vs refl
+      (λ y h. operand_fits s.types p scope (gives text s e) y (maybe_fits s.types p scope (gives text s e) fits) h) all is
+
+  -- an element that states no type is a literal of any type that the whole gives it
+  abbrev BareFits : TreeEx → Type 0
+  BareFits (elements at es) = (u : ValueType) (ws : List PartValue) → part_values (placed text s (Some u) 0 es) ≡ Some ws → ValuesFit p scope s.types agrees.formed agrees.types u ws
+  BareFits e = Unit {0}
+
+  any_fits : (t : ValueType) (n : ℕ) (key : Option Name) (e : TreeEx) (rest : TreeElements) (vs : List PartValue) → ((g : Gives) → gives text s e ≡ Some g → Fits g) → BareFits e
+      → ((ws : List PartValue) → part_values (placed text s (Some t) (1 + n) rest) ≡ Some ws → ValuesFit p scope s.types agrees.formed agrees.types t ws)
+      → part_values (placed text s (Some t) n (element key e rest)) ≡ Some vs → ValuesFit p scope s.types agrees.formed agrees.types t vs
+  any_fits t n key (elements at es) rest vs fits bare all is = bare_fits t n key at es rest vs bare all is
+  any_fits t n key (number at2 k) rest vs fits bare all is = one_more_fits t n key (number at2 k) rest vs fits all is
+  any_fits t n key (string at2 behind) rest vs fits bare all is = one_more_fits t n key (string at2 behind) rest vs fits all is
+  any_fits t n key (name n2) rest vs fits bare all is = one_more_fits t n key (name n2) rest vs fits all is
+  any_fits t n key (unary at2 op e2) rest vs fits bare all is = one_more_fits t n key (unary at2 op e2) rest vs fits all is
+  any_fits t n key (binary at2 op a b) rest vs fits bare all is = one_more_fits t n key (binary at2 op a b) rest vs fits all is
+  any_fits t n key (paren at2 e2) rest vs fits bare all is = one_more_fits t n key (paren at2 e2) rest vs fits all is
+  any_fits t n key (call g es2 spread) rest vs fits bare all is = one_more_fits t n key (call g es2 spread) rest vs fits all is
+  any_fits t n key (selector e2 at2 n2) rest vs fits bare all is = one_more_fits t n key (selector e2 at2 n2) rest vs fits all is
+  any_fits t n key (index e2 at2 i) rest vs fits bare all is = one_more_fits t n key (index e2 at2 i) rest vs fits all is
+  any_fits t n key (slice e2 at2 low high) rest vs fits bare all is = one_more_fits t n key (slice e2 at2 low high) rest vs fits all is
+  any_fits t n key (array_type at2 len e2) rest vs fits bare all is = one_more_fits t n key (array_type at2 len e2) rest vs fits all is
+  any_fits t n key (slice_type at2 e2) rest vs fits bare all is = one_more_fits t n key (slice_type at2 e2) rest vs fits all is
+  any_fits t n key (literal e2 es2) rest vs fits bare all is = one_more_fits t n key (literal e2 es2) rest vs fits all is
+
   mutual
     pub gives_fit : (e : TreeEx) (g : Gives) → gives text s e ≡ Some g → Fits g
     gives_fit (number at n) g is = by (nat_lt n (2 ^ 127)) is
@@ -639,13 +734,36 @@ module _ (p : Program) (scope : List ℕ) (text : List ℕ) (s : Scope) (are_sho
     gives_fit (call f es spread) g is =
         call_fits s.types p scope agrees.formed (first_pos f) (spread_over spread (callee text s (name_in f) (gives text s f))) (seen text s es) g (spread_fits spread (callee text s (name_in f) (gives text s f)) (callee_fits (name_in f) (gives text s f))) (seen_fit es) is
     gives_fit (string at behind) g is = subst Fits (same_some is) tt
-    gives_fit (selector e at n) g is = absurd (none_some is)
-    gives_fit (index e at i) g is = absurd (none_some is)
+    gives_fit (selector e at n) g is =
+        selector_fits n (operand_in (gives text s e)) g (λ x h. operand_fits s.types p scope (gives text s e) x (maybe_fits s.types p scope (gives text s e) (λ k i. gives_fit e k i)) h) is
+    gives_fit (index e at i) g is =
+        index_fits at (operand_in (gives text s e)) (operand_in (gives text s i)) g (λ x h. operand_fits s.types p scope (gives text s e) x (maybe_fits s.types p scope (gives text s e) (λ k j. gives_fit e k j)) h)
+        (λ x h. operand_fits s.types p scope (gives text s i) x (maybe_fits s.types p scope (gives text s i) (λ k j. gives_fit i k j)) h) is
     gives_fit (slice e at low high) g is = absurd (none_some is)
     gives_fit (array_type at len e) g is = absurd (none_some is)
     gives_fit (slice_type at e) g is = absurd (none_some is)
-    gives_fit (literal e es) g is = absurd (none_some is)
+    gives_fit (literal e es) g is = literal_gives_fit (stated_type text s e) es g (λ t vs h. values_fit_in t 0 es vs h) is
     gives_fit (elements at es) g is = absurd (none_some is)
+
+    values_fit_in : (t : ValueType) (n : ℕ) (es : TreeElements) (vs : List PartValue) → part_values (placed text s (Some t) n es) ≡ Some vs → ValuesFit p scope s.types agrees.formed agrees.types t vs
+    values_fit_in t n no_elements vs is = subst (ValuesFit p scope s.types agrees.formed agrees.types t) (same_some is) tt
+    values_fit_in t n (element key e rest) vs is = any_fits t n key e rest vs (λ g h. gives_fit e g h) (bare_fit e) (λ ws h. values_fit_in t (1 + n) rest ws h) is
+
+    bare_fit : (e : TreeEx) → BareFits e
+    bare_fit (elements at es) = λ u ws h. values_fit_in u 0 es ws h
+    bare_fit (number at2 k) = tt
+    bare_fit (string at2 behind) = tt
+    bare_fit (name n2) = tt
+    bare_fit (unary at2 op e2) = tt
+    bare_fit (binary at2 op a b) = tt
+    bare_fit (paren at2 e2) = tt
+    bare_fit (call g es2 spread) = tt
+    bare_fit (selector e2 at2 n2) = tt
+    bare_fit (index e2 at2 i) = tt
+    bare_fit (slice e2 at2 low high) = tt
+    bare_fit (array_type at2 len e2) = tt
+    bare_fit (slice_type at2 e2) = tt
+    bare_fit (literal e2 es2) = tt
 
     pub seen_fit : (es : TreeExs) → AllFit s.types p scope (seen text s es)
     seen_fit tree.none = tt

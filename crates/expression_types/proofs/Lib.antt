@@ -5,3 +5,4 @@ pub mod Items
 pub mod Nodes
 pub mod Settled
 pub mod Places
+pub mod LiteralNodes

@@ -1,10 +1,11 @@
 -- The least fault of an expression, of those of its parts and its own.
 use Rattle.std.proofs.Common.{◌≡◌, ℕ, Bool, true, false, List, ◌⊎◌, Option, sym, subst}
 use Rattle.std.proofs.lemmas.Bool.{false≢true}
+use Rattle.syntax.specs.declared.expression.Name.{Name}
 use Rattle.syntax.specs.FirstBytes.{first_pos}
 use Rattle.syntax.specs.declared.operator.UnOp.{UnOp}
 use Rattle.syntax.specs.declared.operator.BinOp.{BinOp}
-use Rattle.syntax.specs.Expressions.{Ex as TreeEx, Exs as TreeExs, unary, binary, call}
+use Rattle.syntax.specs.Expressions.{Ex as TreeEx, Exs as TreeExs, unary, binary, call, selector, index}
 use Rattle.base.specs.declared.pos.Pos.{Pos}
 use Rattle.type_faults.specs.declared.fault.Fault.{Fault}
 use Rattle.type_faults.specs.Least.{IsLeast, IsLesserWith, lesser}
@@ -13,6 +14,7 @@ use Rattle.type_faults.proofs.Leasts.{least_join, leaf}
 use Rattle.operators.specs.Operands.{Operand}
 use Rattle.operators.specs.Operators.{has_rules}
 use Rattle.operators.specs.Faults.{prefix_fault, pair_fault}
+use Rattle.operand_parts.specs.PartFaults.{selector_fault, index_fault}
 use Rattle.names.specs.Scope.{Scope}
 use Rattle.names.specs.Naming.{name_in}
 use Rattle.expression_types.specs.Typing.{Seen, Callee, operand_in, callee, spread_over, gives, seen}
@@ -47,14 +49,30 @@ module _ (text : List ℕ) (s : Scope) where
   pub condition_least : (at : Pos) (e : TreeEx) (f : Option Fault) (o : Option Operand) → IsLeast (FailsAsOperand text s e) f → o ≡ operand_in (gives text s e) → IsLeast (FailsInCondition text s at e) (lesser f (condition_fault at o))
   condition_least at e f o least is = operand_least (condition_fault at) e f o least is
 
+  -- two operands that each have one value, and the rule of what stands over them
+  two_least : (R : Option Operand → Option Operand → Option Fault) (a b : TreeEx) (f g : Option Fault) (o p : Option Operand) → IsLeast (FailsAsOperand text s a) f → IsLeast (FailsAsOperand text s b) g
+      → o ≡ operand_in (gives text s a) → p ≡ operand_in (gives text s b)
+      → IsLeast (λ k. (FailsAsOperand text s a k ⊎ FailsAsOperand text s b k) ⊎ IsFault (R (operand_in (gives text s a)) (operand_in (gives text s b))) k) (lesser (lesser f g) (R o p))
+  two_least R a b f g o p left right o_is p_is =
+      let both = least_join (λ k. FailsAsOperand text s a k ⊎ FailsAsOperand text s b k) (IsFault (R o p)) (lesser f g) (R o p) (least_join (FailsAsOperand text s a) (FailsAsOperand text s b) f g left right) (leaf (R o p)) in
+      subst (λ (q : Option Operand). IsLeast (λ k. (FailsAsOperand text s a k ⊎ FailsAsOperand text s b k) ⊎ IsFault (R (operand_in (gives text s a)) q) k) (lesser (lesser f g) (R o p))) p_is
+      (subst (λ (q : Option Operand). IsLeast (λ k. (FailsAsOperand text s a k ⊎ FailsAsOperand text s b k) ⊎ IsFault (R q p) k) (lesser (lesser f g) (R o p))) o_is both)
+
+  -- a field of a value
+  pub selector_least : (dot : Pos) (n : Name) (e : TreeEx) (f : Option Fault) (o : Option Operand) → IsLeast (FailsAsOperand text s e) f → o ≡ operand_in (gives text s e)
+      → IsLeast (Fails text s (selector e dot n)) (lesser f (selector_fault text s (first_pos e) n o))
+  selector_least dot n e f o least is = operand_least (selector_fault text s (first_pos e) n) e f o least is
+
   -- two operands that each have one value, and the rule of the operator on them
   pub binary_least : (at : Pos) (op : BinOp) (a b : TreeEx) (f g : Option Fault) (o p : Option Operand) → IsLeast (FailsAsOperand text s a) f → IsLeast (FailsAsOperand text s b) g
       → o ≡ operand_in (gives text s a) → p ≡ operand_in (gives text s b) → IsLeast (Fails text s (binary at op a b)) (lesser (lesser f g) (pair_fault (first_pos a) (first_pos b) op o p))
   binary_least at op a b f g o p left right o_is p_is =
-      let R = pair_fault (first_pos a) (first_pos b) op in
-      let both = least_join (λ k. FailsAsOperand text s a k ⊎ FailsAsOperand text s b k) (IsFault (R o p)) (lesser f g) (R o p) (least_join (FailsAsOperand text s a) (FailsAsOperand text s b) f g left right) (leaf (R o p)) in
-      subst (λ (q : Option Operand). IsLeast (λ k. (FailsAsOperand text s a k ⊎ FailsAsOperand text s b k) ⊎ IsFault (R (operand_in (gives text s a)) q) k) (lesser (lesser f g) (R o p))) p_is
-      (subst (λ (q : Option Operand). IsLeast (λ k. (FailsAsOperand text s a k ⊎ FailsAsOperand text s b k) ⊎ IsFault (R q p) k) (lesser (lesser f g) (R o p))) o_is both)
+      two_least (pair_fault (first_pos a) (first_pos b) op) a b f g o p left right o_is p_is
+
+  -- an element, by its array and its index
+  pub index_least : (bracket : Pos) (a b : TreeEx) (f g : Option Fault) (o p : Option Operand) → IsLeast (FailsAsOperand text s a) f → IsLeast (FailsAsOperand text s b) g
+      → o ≡ operand_in (gives text s a) → p ≡ operand_in (gives text s b) → IsLeast (Fails text s (index a bracket b)) (lesser (lesser f g) (index_fault s.types (first_pos a) o p))
+  index_least bracket a b f g o p left right o_is p_is = two_least (index_fault s.types (first_pos a)) a b f g o p left right o_is p_is
 
   pub call_least : (g : TreeEx) (es : TreeExs) (spread : Bool) (k : Callee) (os : List Seen) (a b : Option Fault) (f : Option Fault)
       → k ≡ spread_over spread (callee text s (name_in g) (gives text s g)) → os ≡ seen text s es

@@ -4,17 +4,16 @@
 -- A form that is left out of the profile fails at its first byte, and has no other rule of its own. The part that begins at the same byte
 -- keeps its rules, so that the fault with the least number stands there. What stands further right isn't looked at: the fault that is
 -- reported has the least offset.
-use Rattle.std.specs.Prelude.{ℕ, length, ◌^◌, ◌==◌, nat_lt, ◌⊎◌, Bool, true, false, not, ◌&&◌, List, [], ◌∷◌, Option, Some, None, if◌then◌else◌}
+use Rattle.std.specs.Prelude.{ℕ, length, ◌^◌, ◌==◌, nat_lt, ◌⊎◌, Bool, true, false, not, ◌&&◌, List, [], ◌∷◌, Option, Some, None, option_and_then, if◌then◌else◌}
 use Rattle.base.specs.declared.pos.Pos.{Pos}
 use Rattle.syntax.specs.declared.expression.Name.{Name}
 use Rattle.syntax.specs.FirstBytes.{first_pos}
-use Rattle.syntax.specs.Expressions.{Ex as TreeEx, Exs as TreeExs, number, string, name, unary, binary, paren, call, selector, index, slice, array_type, slice_type, literal, elements, some, spelled}
+use Rattle.syntax.specs.Expressions.{Ex as TreeEx, Exs as TreeExs, Elements as TreeElements, number, string, name, unary, binary, paren, call, selector, index, slice, array_type, slice_type, literal, elements, some, no_elements, element, spelled}
 use Rattle.syntax.specs.Expressions as tree
 use Rattle.type_faults.specs.declared.fault.Fault.{Fault}
 use Rattle.type_faults.specs.declared.fault.FaultKind.TheVariants.{Unknown, Mismatch, NotCallable, WrongCount, ResultCount, ConstRange, Unfit, OutOfProfile}
 use Rattle.base.specs.declared.value_type.ValueType.{ValueType}
 use Rattle.base.specs.declared.value_type.ValueType.TheVariants.{Bool as Boolean}
-use Rattle.base.specs.Types.{same_type}
 use Rattle.type_faults.specs.Faults.{fault, IsFault, FormFails}
 use Rattle.operators.specs.ConstantFaults.{constant_range_fault}
 use Rattle.operators.specs.Operands.{Operand, constant, value, nil, is_assignable}
@@ -24,10 +23,15 @@ use Rattle.names.specs.declared.scope.Declared.{Declared}
 use Rattle.names.specs.declared.scope.Declared.TheVariants as declared
 use Rattle.names.specs.Scope.{Scope, declaration}
 use Rattle.names.specs.Naming.{name_in}
-use Rattle.names.specs.Faults.{FailsAsType}
+use Rattle.names.specs.Faults.{type_name_fault}
+use Rattle.operand_parts.specs.PartFaults.{selector_fault, index_fault}
+use Rattle.operand_parts.specs.ArrayTypes.{length_of, length_fault, array_fault}
+use Rattle.operand_parts.specs.Literals.{type_elided, elided}
+use Rattle.operand_parts.specs.LiteralFaults.{elision_fault, ShapeFails}
+use Rattle.operand_parts.specs.LiteralValues.{ElementsFail}
 use Rattle.expression_types.specs.declared.wants.Wanted.{Wanted}
 use Rattle.expression_types.specs.declared.wants.Wanted.TheVariants as wants
-use Rattle.expression_types.specs.Typing.{Gives, one, called, asking, quoted, printed, panicked, exited, operand_in, Seen, Many, many, count, are_parts, are_shown, part_count, types_agree, operand_agrees, Callee, printer, panicker, reader, exiter, function, conversion, no_function, no_spread, no_text_spread, nothing, exit_places, spread_over, callee, gives, seen, taken}
+use Rattle.expression_types.specs.Typing.{Gives, one, called, asking, quoted, printed, panicked, exited, operand_in, Seen, Many, many, count, are_parts, are_shown, part_count, types_agree, operand_agrees, Callee, printer, panicker, reader, exiter, function, conversion, no_function, no_spread, no_text_spread, nothing, exit_places, spread_over, callee, gives, seen, stated_type, placed, taken}
 
 -- where a form is taken, and where it is left out
 abbrev pub WhereTaken : Bool → (taken left_out : Fault → Type 0) → Fault → Type 0
@@ -45,7 +49,6 @@ name_fault (Some (declared.Constant k)) pos = None
 name_fault (Some (declared.Global k g)) pos = None
 name_fault (Some (declared.Function g)) pos = Some (fault OutOfProfile pos)
 name_fault (Some (declared.External e declared_pos)) pos = Some (fault OutOfProfile pos)
-name_fault (Some declared.TypeName) pos = Some (fault Unfit pos)
 name_fault (Some (declared.«Type» t)) pos = Some (fault Unfit pos)
 name_fault (Some (declared.Truth b)) pos = None
 name_fault (Some declared.Nil) pos = None
@@ -210,13 +213,37 @@ module _ (text : List ℕ) where
     Fails s (call g es spread) f =
         (CalleeFails s (name_in g) (λ h. Fails s g h) (gives text s g) f ⊎ FailsInEach s es f)
         ⊎ CallFails (first_pos g) (spread_over spread (callee text s (name_in g) (gives text s g))) (seen text s es) f
-    Fails s (selector e pos n) f = Fails s e f ⊎ FormFails (first_pos e) f
-    Fails s (index e pos i) f = Fails s e f ⊎ FormFails (first_pos e) f
+    Fails s (selector e pos n) f =
+        (Fails s e f ⊎ IsFault (single_fault (gives text s e)) f) ⊎ IsFault (selector_fault text s (first_pos e) n (operand_in (gives text s e))) f
+    Fails s (index e pos i) f =
+        ((Fails s e f ⊎ IsFault (single_fault (gives text s e)) f) ⊎ (Fails s i f ⊎ IsFault (single_fault (gives text s i)) f))
+        ⊎ IsFault (index_fault s.types (first_pos e) (operand_in (gives text s e)) (operand_in (gives text s i))) f
     Fails s (slice e pos low high) f = Fails s e f ⊎ FormFails (first_pos e) f
     Fails s (array_type pos len e) f = FormFails pos f
     Fails s (slice_type pos e) f = FormFails pos f
-    Fails s (literal e es) f = FailsAsType text s e f ⊎ FormFails (first_pos e) f
+    Fails s (literal e es) f =
+        StatedFails s e f
+        ⊎ ((ShapeFails text s (first_pos e) (stated_type text s e) es f ⊎ FailsInElements s (stated_type text s e) es f) ⊎ ElementsFail (placed text s (stated_type text s e) 0 es) f)
     Fails s (elements pos es) f = FormFails pos f
+
+    -- in one as a type: the name of one, in parentheses or not, or an array type; all others are left out
+    pub StatedFails : Scope → TreeEx → Fault → Type 0
+    StatedFails s (name n) f = IsFault (type_name_fault (declaration s (spelled text n)) n.pos) f
+    StatedFails s (paren pos e) f = StatedFails s e f
+    StatedFails s (array_type pos len e) f =
+        ((Fails s len f ⊎ IsFault (single_fault (gives text s len)) f) ⊎ StatedFails s e f)
+        ⊎ (IsFault (length_fault (first_pos len) (operand_in (gives text s len))) f
+        ⊎ IsFault (array_fault s.types pos (option_and_then length_of (operand_in (gives text s len))) (stated_type text s e)) f)
+    StatedFails s other f = FormFails (first_pos other) f
+
+    -- in the elements of a literal of a type, or of none that is known
+    pub FailsInElements : Scope → Option ValueType → TreeElements → Fault → Type 0
+    FailsInElements s t no_elements f = ⊥
+    FailsInElements s t (element key (elements pos es) rest) f =
+        (IsFault (elision_fault pos (elided s.types t)) f
+        ⊎ ((ShapeFails text s pos (type_elided (elided s.types t)) es f ⊎ FailsInElements s (type_elided (elided s.types t)) es f) ⊎ ElementsFail (placed text s (type_elided (elided s.types t)) 0 es) f))
+        ⊎ FailsInElements s t rest f
+    FailsInElements s t (element key e rest) f = (Fails s e f ⊎ IsFault (single_fault (gives text s e)) f) ⊎ FailsInElements s t rest f
 
     pub FailsInEach : Scope → TreeExs → Fault → Type 0
     FailsInEach s tree.none f = ⊥
@@ -225,6 +252,15 @@ module _ (text : List ℕ) where
   -- a rule fails in an expression with one value
   abbrev pub FailsAsOperand : Scope → TreeEx → Fault → Type 0
   FailsAsOperand s e f = Fails s e f ⊎ IsFault (single_fault (gives text s e)) f
+
+  -- in a literal that begins at a place, of a type or of none that is known
+  abbrev pub FailsInLiteral : Scope → Pos → Option ValueType → TreeElements → Fault → Type 0
+  FailsInLiteral s first t es f = (ShapeFails text s first t es f ⊎ FailsInElements s t es f) ⊎ ElementsFail (placed text s t 0 es) f
+
+  -- in an element of one
+  abbrev pub FailsInElement : Scope → Option ValueType → TreeEx → Fault → Type 0
+  FailsInElement s t (elements pos es) f = IsFault (elision_fault pos (elided s.types t)) f ⊎ FailsInLiteral s pos (type_elided (elided s.types t)) es f
+  FailsInElement s t e f = FailsAsOperand s e f
 
   -- a rule fails in the condition of a statement whose word stands at a place; what is no truth value is reported there
   abbrev pub FailsInCondition : Scope → Pos → TreeEx → Fault → Type 0

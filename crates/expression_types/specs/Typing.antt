@@ -1,12 +1,12 @@
 -- What the rules of the language give expressions (Go specification, "Expressions", "Calls", "Bootstrapping").
-use Rattle.std.specs.Prelude.{ℕ, length, ◌^◌, ◌==◌, pos, Bool, true, false, ◌&&◌, List, [], ◌∷◌, map, Option, Some, None, is_some, option_and_then, nat_lt, nat_le, if◌then◌else◌}
+use Rattle.std.specs.Prelude.{ℕ, length, ◌+◌, ◌^◌, ◌==◌, pos, Bool, true, false, ◌&&◌, List, [], ◌∷◌, map, Option, Some, None, is_some, option_and_then, nat_lt, nat_le, if◌then◌else◌}
 use Rattle.std.specs.Option.{option_map}
 use Rattle.base.specs.declared.pos.Pos.{Pos}
 use Rattle.syntax.specs.declared.operator.BinOp.{BinOp}
 use Rattle.syntax.specs.declared.operator.UnOp.{UnOp}
 use Rattle.syntax.specs.declared.expression.Name.{Name}
 use Rattle.syntax.specs.FirstBytes.{first_pos}
-use Rattle.syntax.specs.Expressions.{Ex as TreeEx, Exs as TreeExs, number, string, name, unary, binary, paren, call, selector, index, slice, array_type, slice_type, literal, elements, some, spelled}
+use Rattle.syntax.specs.Expressions.{Ex as TreeEx, Exs as TreeExs, Elements as TreeElements, number, string, name, unary, binary, paren, call, selector, index, slice, array_type, slice_type, literal, elements, some, no_elements, element, spelled}
 use Rattle.syntax.specs.Expressions as tree
 use Rattle.syntax.specs.Statements.{ValueSpec, Clause, forever, while_true, counting, ranging}
 use Rattle.typed_syntax.specs.Syntax.{Ex, Exs, read, local, global, here, none, more, results, read_int as items}
@@ -29,7 +29,11 @@ use Rattle.names.specs.declared.scope.External.{External as ExternalFunction}
 use Rattle.names.specs.declared.scope.External.TheVariants as external
 use Rattle.names.specs.Scope.{Scope, Signature, declaration, signature, known}
 use Rattle.names.specs.Naming.{name_in, between}
-use Rattle.names.specs.Types.{type_in}
+use Rattle.names.specs.Types.{type_in, declared_type}
+use Rattle.operand_parts.specs.Parts.{selected, indexed}
+use Rattle.operand_parts.specs.ArrayTypes.{length_of, array_with}
+use Rattle.operand_parts.specs.Literals.{type_elided, elided, element_part, shape_fits}
+use Rattle.operand_parts.specs.LiteralValues.{Placed, composed}
 use Rattle.expression_types.specs.declared.wants.Wanted.{Wanted}
 use Rattle.expression_types.specs.declared.wants.Wanted.TheVariants as wants
 
@@ -79,7 +83,6 @@ name_operand s (Some (declared.Constant k)) = option_map constant_read (known s 
 name_operand s (Some (declared.Global k g)) = option_map (global_read g.0) (known s k.0)
 name_operand s (Some (declared.Function f)) = None
 name_operand s (Some (declared.External e at)) = None
-name_operand s (Some declared.TypeName) = None
 name_operand s (Some (declared.«Type» t)) = None
 name_operand s (Some (declared.Truth b)) = Some (constant (untyped (Truth b)))
 name_operand s (Some declared.Nil) = Some nil
@@ -337,7 +340,6 @@ callee_declared s (Some (declared.Constant k)) = callee_value (option_map consta
 callee_declared s (Some (declared.Global k g)) = callee_value (option_map (global_read g.0) (known s k.0))
 callee_declared s (Some (declared.Function f)) = function_with f.0 (signature s f.0)
 callee_declared s (Some (declared.External e at)) = callee_external e
-callee_declared s (Some declared.TypeName) = conversion
 callee_declared s (Some (declared.«Type» t)) = conversion
 callee_declared s (Some (declared.Truth b)) = no_function
 callee_declared s (Some declared.Nil) = no_function
@@ -410,6 +412,11 @@ module _ (text : List ℕ) where
   callee s None o = callee_value (operand_in o)
   callee s (Some n) o = callee_declared s (declaration s (spelled text n))
 
+  -- a composite literal of a type or of none that is known, by its elements
+  abbrev pub literal_given : Scope → Option ValueType → TreeElements → List Placed → Option Gives
+  literal_given s None es qs = None
+  literal_given s (Some t) es qs = option_map one (composed s.types t (shape_fits text s t es) qs)
+
   -- what an expression gives in a scope, where no rule fails in it; a form that is left out of the profile gives nothing
   abbrev mutual
     pub gives : Scope → TreeEx → Option Gives
@@ -420,17 +427,39 @@ module _ (text : List ℕ) where
     gives s (binary at op a b) = pair_gives at op (operand_in (gives s a)) (operand_in (gives s b))
     gives s (paren at e) = gives s e
     gives s (call f es spread) = called_with (first_pos f) (spread_over spread (callee s (name_in f) (gives s f))) (seen s es)
-    gives s (selector e at n) = None
-    gives s (index e at i) = None
+    gives s (selector e at n) = option_map one (option_and_then (selected text s n) (operand_in (gives s e)))
+    gives s (index e at i) = option_map one (both (indexed s.types at) (operand_in (gives s e)) (operand_in (gives s i)))
     gives s (slice e at low high) = None
     gives s (array_type at len e) = None
     gives s (slice_type at e) = None
-    gives s (literal e es) = None
+    gives s (literal e es) = literal_given s (stated_type s e) es (placed s (stated_type s e) 0 es)
     gives s (elements at es) = None
+
+    -- the type that an expression states
+    pub stated_type : Scope → TreeEx → Option ValueType
+    stated_type s (name n) = declared_type s.types (declaration s (spelled text n))
+    stated_type s (paren at e) = stated_type s e
+    stated_type s (array_type at len e) = array_with s.types (option_and_then length_of (operand_in (gives s len))) (stated_type s e)
+    stated_type s other = None
+
+    -- the elements of a literal of a type, from a number on: one without a type of its own has that of the whole's elements, where it may be left out
+    pub placed : Scope → Option ValueType → ℕ → TreeElements → List Placed
+    placed s t n no_elements = []
+    placed s t n (element key (elements at es) rest) =
+        record { part = element_part text s t n key; at = at; operand = operand_in (literal_given s (type_elided (elided s.types t)) es (placed s (type_elided (elided s.types t)) 0 es)) } ∷ placed s t (1 + n) rest
+    placed s t n (element key e rest) = record { part = element_part text s t n key; at = first_pos e; operand = operand_in (gives s e) } ∷ placed s t (1 + n) rest
 
     pub seen : Scope → TreeExs → List Seen
     seen s tree.none = []
     seen s (some e es) = record { at = first_pos e; gives = gives s e } ∷ seen s es
+
+  -- what a literal gives, and an element of one
+  abbrev pub literal_gives : Scope → Option ValueType → TreeElements → Option Gives
+  literal_gives s t es = literal_given s t es (placed s t 0 es)
+
+  abbrev pub element_gives : Scope → Option ValueType → TreeEx → Option Gives
+  element_gives s t (elements at es) = literal_gives s (type_elided (elided s.types t)) es
+  element_gives s t e = gives s e
 
   -- what a condition is
   abbrev pub condition : Scope → TreeEx → Option Ex

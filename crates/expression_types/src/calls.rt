@@ -70,7 +70,7 @@ fn callee_declared(
         Some(Declared::Print(line)) => Callee::Printer(line),
         Some(Declared::Panic) => Callee::Panicker,
         Some(Declared::Variable(_, _) | Declared::Truth(_) | Declared::Nil) => Callee::NoFunction,
-        Some(Declared::TypeName | Declared::Type(_) | Declared::LeftOutType) => Callee::Conversion,
+        Some(Declared::Type(_) | Declared::LeftOutType) => Callee::Conversion,
         Some(Declared::Untyped | Declared::LeftOutValue) | None => Callee::Nothing,
     })
 }

@@ -4,31 +4,43 @@ ghost use Rattle.std.specs.Prelude.{◌≡◌, ◌⊎◌, None, Some, IfOk, true
 ghost use Rattle.std.specs.Option.{option_map};
 ghost use Rattle.string_value.specs.StringValue.{string_value};
 ghost use Rattle.syntax.specs.FirstBytes.{first_pos};
-ghost use Rattle.syntax.specs.Expressions.{ex_of as tree_of, exs_of as trees_of, name as name_of, unary};
+ghost use Rattle.syntax.specs.Expressions.{ex_of as tree_of, exs_of as trees_of, elements_of, name as name_of, unary, selector as selector_of};
 ghost use Rattle.type_faults.specs.Least.{IsLeast, IsLesserWith, lesser as least};
 ghost use Rattle.type_faults.specs.Faults.{FormFails};
+ghost use Rattle.type_faults.specs.Given.{both};
+ghost use Rattle.operand_parts.specs.Parts.{indexed};
+ghost use Rattle.operand_parts.specs.PartFaults.{index_fault};
+ghost use Rattle.operand_parts.specs.LiteralFaults.{elision_fault};
+ghost use Rattle.operand_parts.specs.Passing.{elision_of, placeds};
 ghost use Rattle.operators.specs.Faults.{pair_fault};
 ghost use Rattle.operators.specs.Passing.{operand_of};
 ghost use Rattle.names.specs.Scope.{scope_of};
 ghost use Rattle.names.specs.Naming.{between, name_in};
-ghost use Rattle.names.specs.Faults.{FailsAsType};
-ghost use Rattle.expression_types.specs.Typing.{one as one_gives, quoted as quoted_gives, pair_gives, spread_over, called_with, operand_in, callee, gives, seen};
-ghost use Rattle.expression_types.specs.Faults.{CallFails, Fails, FailsInEach, FailsAsOperand, CalleeFails, literal_fault, single_fault};
-ghost use Rattle.expression_types.specs.Passing.{gives_of, seens, callee_of, literal_operand};
+ghost use Rattle.expression_types.specs.Typing.{one as one_gives, quoted as quoted_gives, pair_gives, spread_over, called_with, operand_in, callee, gives, stated_type, literal_gives, placed, element_gives, seen};
+ghost use Rattle.expression_types.specs.Faults.{CallFails, Fails, FailsInEach, FailsAsOperand, CalleeFails, StatedFails, FailsInLiteral, FailsInElements, FailsInElement, literal_fault, single_fault};
+ghost use Rattle.expression_types.specs.Passing.{gives_of, seens, callee_of, element_value, is_bare, literal_operand};
 
 use crate::calls::{
     call_fault, call_value, callee_name_fault, callee_named, callee_value, spread_over,
 };
 use crate::gives::{Callee, Gives, Item, one_operand, single_fault};
+use crate::literals::{
+    PlacedList, Stated, array_of, key_of, literal_of, next_number, stated_name, typed_literal,
+};
 use crate::naming::{name_fault, name_value};
-use base::{NoMemory, Pos};
+use base::{NoMemory, Pos, ValueType};
 use constants::{Constant, untyped};
-use names::{Scope, between, name_in, type_fault};
+use names::{Scope, between, name_in};
+use operand_parts::{
+    Elision, Placed, element_part, elided, elision_fault, index_fault, indexed, selected,
+    selector_fault, type_elided,
+};
 use operators::{Operand, has_rules, pair_fault, paired, prefix_fault, prefixed};
 use std::alloc::Global;
 use string_value::string_value;
-use syntax::{BinOp, Expr, Name, UnOp};
+use syntax::{BinOp, Element, Expr, Name, UnOp};
 use type_faults::{Fault, FaultKind, lesser};
+use typed::TypeTable;
 
 /// What is known of an expression: its first byte, what it gives, and the fault that is reported of it.
 #[derive(Drop)]
@@ -165,6 +177,46 @@ fn pair(
     })
 }
 
+/// An element of an array, by an index in brackets at a position.
+fn element(
+    types: &TypeTable,
+    bracket: Pos,
+    whole: Single,
+    index: Single,
+) -> Result<Checked, NoMemory>
+    ensures pos { IfOk result (λ c. c.pos ≡ whole.pos) }
+    ensures gives { IfOk result (λ c. option_map gives_of c.gives ≡ option_map one_gives (both (indexed types.now bracket) (option_map operand_of whole.operand) (option_map operand_of index.operand))) }
+    ensures fault { IfOk result (λ c. c.fault ≡ least (least whole.fault index.fault) (index_fault types.now whole.pos (option_map operand_of whole.operand) (option_map operand_of index.operand))) }
+{
+    let own = index_fault(types, whole.pos, &whole.operand, &index.operand);
+    let operand = indexed(types, bracket, whole.operand, index.operand)?;
+    Ok(Checked {
+        pos: whole.pos,
+        gives: one(operand),
+        fault: lesser(lesser(whole.fault, index.fault), own),
+    })
+}
+
+/// Whether an element has no type of its own.
+fn is_bare(e: &Expr) -> bool
+    ensures { result ≡ is_bare (tree_of e.now) }
+{
+    matches!(e, Expr::Elements(_, _))
+}
+
+/// An element without a type of its own, whose brace stands at a place.
+fn elided_literal(pos: Pos, elision: Elision, literal: Checked) -> Single
+    ensures pos { result.pos ≡ literal.pos }
+    ensures operand { option_map operand_of result.operand ≡ operand_in (option_map gives_of literal.gives) }
+    ensures fault { result.fault ≡ least (elision_fault pos (elision_of elision)) literal.fault }
+{
+    Single {
+        pos: literal.pos,
+        operand: one_operand(literal.gives),
+        fault: lesser(elision_fault(pos, elision), literal.fault),
+    }
+}
+
 /// A call at a place, of what is called and the arguments.
 fn call_of(alloc: Global, pos: Pos, called: Called, arguments: Listed) -> Result<Checked, NoMemory>
     ensures pos { IfOk result (λ c. c.pos ≡ pos) }
@@ -190,20 +242,6 @@ fn named(alloc: Global, text: &[u8], scope: &Scope, name: Name) -> Checked
         pos: name.pos,
         gives: name_value(alloc, text, scope, name),
         fault: name_fault(text, scope, name),
-    }
-}
-
-/// A composite literal, by its type.
-fn check_literal(text: &[u8], scope: &Scope, type_expr: &Expr) -> Checked
-    ensures pos { result.pos ≡ first_pos (tree_of type_expr.now) }
-    ensures gives { option_map gives_of result.gives ≡ None }
-    ensures fault { IsLeast (λ f. FailsAsType text.now (scope_of scope.now) (tree_of type_expr.now) f ⊎ FormFails (first_pos (tree_of type_expr.now)) f) result.fault }
-{
-    let pos = type_expr.pos();
-    Checked {
-        pos,
-        gives: None,
-        fault: lesser(type_fault(text, scope, type_expr), form_fault(pos)),
     }
 }
 
@@ -250,12 +288,23 @@ pub fn check_expr(alloc: Global, text: &[u8], scope: &Scope, e: &Expr) -> Result
             let listed = check_list(alloc, text, scope, arguments)?;
             call_of(alloc, function.pos(), called, listed)
         }
-        Expr::Selector(value, _, _) => check_left_out(alloc, text, scope, value),
-        Expr::Index(value, _, _) => check_left_out(alloc, text, scope, value),
+        Expr::Selector(value, dot, name) => {
+            check_selector(alloc, text, scope, value, *dot, *name)
+        }
+        Expr::Index(whole, bracket, index) => {
+            let whole = check_single(alloc, text, scope, whole)?;
+            let index = check_single(alloc, text, scope, index)?;
+            element(&scope.types, *bracket, whole, index)
+        }
         Expr::Slice(value, _, _, _) => check_left_out(alloc, text, scope, value),
         Expr::ArrayType(pos, _, _) => Ok(left_out(*pos)),
         Expr::SliceType(pos, _) => Ok(left_out(*pos)),
-        Expr::Literal(type_expr, _) => Ok(check_literal(text, scope, type_expr)),
+        Expr::Literal(type_expr, list) => {
+            let stated = check_stated(alloc, text, scope, type_expr)?;
+            let pos = type_expr.pos();
+            let literal = check_elements(alloc, text, scope, pos, stated.value_type, list)?;
+            Ok(typed_literal(stated, literal))
+        }
         Expr::Elements(pos, _) => Ok(left_out(*pos)),
     }
 }
@@ -305,6 +354,144 @@ fn check_left_out(
         gives: None,
         fault: lesser(checked.fault, form_fault(checked.pos)),
     })
+}
+
+/// A field of a value, behind a dot.
+#[cycle(expressions)]
+fn check_selector(
+    alloc: Global,
+    text: &[u8],
+    scope: &Scope,
+    value: &Expr,
+    dot: Pos,
+    name: Name,
+) -> Result<Checked, NoMemory>
+    ensures pos { IfOk result (λ c. c.pos ≡ first_pos (tree_of value.now)) }
+    ensures gives { IfOk result (λ c. option_map gives_of c.gives ≡ gives text.now (scope_of scope.now) (selector_of (tree_of value.now) dot name)) }
+    ensures fault { IfOk result (λ c. IsLeast (Fails text.now (scope_of scope.now) (selector_of (tree_of value.now) dot name)) c.fault) }
+{
+    let value = check_single(alloc, text, scope, value)?;
+    let own = selector_fault(text, scope, value.pos, name, &value.operand);
+    let operand = selected(alloc, text, scope, name, value.operand)?;
+    Ok(Checked {
+        pos: value.pos,
+        gives: one(operand),
+        fault: lesser(value.fault, own),
+    })
+}
+
+/// What an expression states as a type: the name of one, in parentheses or not, or an array type.
+#[cycle(expressions)]
+#[tactic(auto, using(syntax::proofs::Views::expr_rows))]
+pub fn check_stated(alloc: Global, text: &[u8], scope: &Scope, e: &Expr) -> Result<Stated, NoMemory>
+    ensures value_type { IfOk result (λ r. r.value_type ≡ stated_type text.now (scope_of scope.now) (tree_of e.now)) }
+    ensures fault { IfOk result (λ r. IsLeast (StatedFails text.now (scope_of scope.now) (tree_of e.now)) r.fault) }
+{
+    match e {
+        Expr::Name(name) => Ok(stated_name(text, scope, *name)),
+        Expr::Paren(_, inner) => check_stated(alloc, text, scope, inner),
+        Expr::ArrayType(bracket, length, element) => {
+            let length = check_single(alloc, text, scope, length)?;
+            let element = check_stated(alloc, text, scope, element)?;
+            Ok(array_of(&scope.types, *bracket, length, element))
+        }
+        _ => Ok(Stated {
+            value_type: None,
+            fault: form_fault(e.pos()),
+        }),
+    }
+}
+
+/// The elements of a literal that begins at a place, of a type or of none that is known.
+#[cycle(expressions)]
+fn check_elements(
+    alloc: Global,
+    text: &[u8],
+    scope: &Scope,
+    first: Pos,
+    whole: Option<ValueType>,
+    list: &[Element],
+) -> Result<Checked, NoMemory>
+    ensures pos { IfOk result (λ c. c.pos ≡ first) }
+    ensures gives { IfOk result (λ c. option_map gives_of c.gives ≡ literal_gives text.now (scope_of scope.now) whole (elements_of list.now)) }
+    ensures fault { IfOk result (λ c. IsLeast (FailsInLiteral text.now (scope_of scope.now) first whole (elements_of list.now)) c.fault) }
+{
+    let listed = check_placed(alloc, text, scope, whole, list)?;
+    literal_of(alloc, text, scope, first, whole, list, listed)
+}
+
+/// The elements of a literal, each with the part that it stands for.
+#[cycle(expressions)]
+fn check_placed(
+    alloc: Global,
+    text: &[u8],
+    scope: &Scope,
+    whole: Option<ValueType>,
+    list: &[Element],
+) -> Result<PlacedList, NoMemory>
+    ensures placed { IfOk result (λ l. placeds l.placed.items ≡ placed text.now (scope_of scope.now) whole 0 (elements_of list.now)) }
+    ensures fault { IfOk result (λ l. IsLeast (FailsInElements text.now (scope_of scope.now) whole (elements_of list.now)) l.fault) }
+{
+    let mut placed = Vec::new(alloc);
+    let mut fault = None;
+    let mut number = 0;
+    for element in list {
+        let Single {
+            pos,
+            operand,
+            fault: own,
+        } = check_element(alloc, text, scope, whole, element)?;
+        let part = element_part(text, scope, whole, number, key_of(element));
+        placed.push(Placed { part, pos, operand })?;
+        fault = lesser(fault, own);
+        number = next_number(number)?;
+    }
+    Ok(PlacedList { placed, fault })
+}
+
+/// An element of a literal of a type or of none that is known.
+#[cycle(expressions)]
+fn check_element(
+    alloc: Global,
+    text: &[u8],
+    scope: &Scope,
+    whole: Option<ValueType>,
+    element: &Element,
+) -> Result<Single, NoMemory>
+    ensures pos { IfOk result (λ c. c.pos ≡ first_pos (element_value element.now)) }
+    ensures operand { IfOk result (λ c. option_map operand_of c.operand ≡ operand_in (element_gives text.now (scope_of scope.now) whole (element_value element.now))) }
+    ensures fault { IfOk result (λ c. IsLeast (FailsInElement text.now (scope_of scope.now) whole (element_value element.now)) c.fault) }
+{
+    match element {
+        Element::Plain(e) => check_part(alloc, text, scope, whole, e),
+        Element::Keyed(_, e) => check_part(alloc, text, scope, whole, e),
+    }
+}
+
+/// The value of an element: where it has no type of its own, it is a literal of the type of the whole's elements.
+#[cycle(expressions)]
+#[tactic(auto, using(syntax::proofs::Views::expr_rows))]
+fn check_part(
+    alloc: Global,
+    text: &[u8],
+    scope: &Scope,
+    whole: Option<ValueType>,
+    e: &Expr,
+) -> Result<Single, NoMemory>
+    ensures pos { IfOk result (λ c. c.pos ≡ first_pos (tree_of e.now)) }
+    ensures operand { IfOk result (λ c. option_map operand_of c.operand ≡ operand_in (element_gives text.now (scope_of scope.now) whole (tree_of e.now))) }
+    ensures fault { IfOk result (λ c. IsLeast (FailsInElement text.now (scope_of scope.now) whole (tree_of e.now)) c.fault) }
+{
+    if !is_bare(e) {
+        return check_single(alloc, text, scope, e);
+    }
+    let Expr::Elements(pos, list) = e else {
+        unreachable!()
+    };
+    let elision = elided(&scope.types, whole);
+    let own = type_elided(elision);
+    let literal = check_elements(alloc, text, scope, *pos, own, list)?;
+    Ok(elided_literal(*pos, elision, literal))
 }
 
 /// What is called, where `...` may stand after the arguments.

@@ -11,13 +11,17 @@ mod calls;
 mod conditions;
 mod expressions;
 mod gives;
+mod literals;
 mod naming;
 mod values;
 mod wants;
 
 pub use conditions::{Condition, Test, check_condition, check_test};
-pub use expressions::{Checked, Listed, Single, check_expr, check_list, check_single};
+pub use expressions::{
+    Checked, Listed, Single, check_expr, check_list, check_single, check_stated,
+};
 pub use gives::{Callee, Gives, Item, Part, is_single, one_type, own_type, single_fault};
+pub use literals::Stated;
 pub use naming::known_type;
 pub use values::{
     agrees, are_single, count, count_fault, many_types, placed_fault, singles_fault, take_fault,

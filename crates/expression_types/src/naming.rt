@@ -91,8 +91,7 @@ fn declared_fault(declared: Option<Declared>, pos: Pos) -> Option<Fault>
             | Declared::Truth(_)
             | Declared::Nil,
         ) => return None,
-        Some(Declared::TypeName | Declared::Type(_) | Declared::Print(_) | Declared::Panic) =>
-            FaultKind::Unfit,
+        Some(Declared::Type(_) | Declared::Print(_) | Declared::Panic) => FaultKind::Unfit,
         Some(
             Declared::Function(_)
             | Declared::External(_, _)

@@ -33,7 +33,8 @@ use Rattle.package_values.specs.Values.{Item, items_in, is_variable_type, known_
 use Rattle.package_values.specs.Needs.{have_form}
 use Rattle.package_values.specs.ValueFaults.{is_this_value, value_name_fault, ValuesFail, is_bare, type_asked, TypeFails, SpecFails, SpecsFail, left_out_fault, ValuesLeftOut, LeftOut, InitialsFail, VariablesFail, AllVariablesFail, DeclarationsFail, NamesFail}
 use Rattle.package_values.specs.Accepted.{TypeIs, ConstantValuesAre, ConstantsAre, AllConstantsAre, OwnTypesAre, VariableTypesAre, InitialsAre, VariablesAre, AllVariablesAre, SpecsAre, NamesAre, IsGiven, DeclarationsAre}
-use Rattle.package_values.proofs.Giving.{holding, allowed_gives, variable_known}
+use Rattle.package_values.proofs.Holding.{holding}
+use Rattle.package_values.proofs.Giving.{allowed_gives, variable_known}
 use Rattle.package_values.proofs.AllKnown.{NothingFails, behind, settled_is, never_here, type_behind, value_behind, single_behind, forms_behind, no_call_behind, counted_behind, known_there, given_there, settled_behind}
 
 abbrev Never : (Fault → Type 0) → Type 0

@@ -51,7 +51,8 @@ use Rattle.package_values.specs.ValueFaults.{single_count, value_fault, ValuesFa
 use Rattle.components.specs.Graph.{Among}
 use Rattle.package_values.specs.Passing.{has_mark, is_marked}
 use Rattle.package_values.proofs.Growth.{known, Consistent, IsEnd, rounds, rounds_good, rounds_settle, all_seen, rounds_hold}
-use Rattle.package_values.proofs.Giving.{holding, give, monotone, type_same, given_sound, looks_are}
+use Rattle.package_values.proofs.Holding.{holding}
+use Rattle.package_values.proofs.Giving.{give, monotone, type_same, given_sound, looks_are}
 use Rattle.package_values.proofs.Same.{NameSame, AllSame, all_left, all_right, gives_same, fails_back, type_fails_back}
 use Rattle.package_values.proofs.Marks.{unmarked, set_count, set_only, set_length}
 

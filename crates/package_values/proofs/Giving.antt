@@ -4,21 +4,20 @@ use Rattle.std.specs.Prelude.{slice_get, slice_set, option_and_then, ◌==◌, �
 use Rattle.std.proofs.lemmas.Bool.{eqb-true}
 use Rattle.std.specs.Option.{option_map}
 use Rattle.base.specs.declared.pos.Pos.{Pos}
-use Rattle.syntax.specs.declared.operator.BinOp.{BinOp}
 use Rattle.syntax.specs.declared.operator.UnOp.{UnOp}
 use Rattle.syntax.specs.FirstBytes.{first_pos}
 use Rattle.syntax.specs.declared.expression.Name.{Name}
 use Rattle.syntax.specs.Expressions as tree
-use Rattle.syntax.specs.Expressions.{Ex as TreeEx, Exs as TreeExs, some, number, string, name, unary, binary, paren, call, selector, index, slice, array_type, slice_type, literal, elements, spelled}
+use Rattle.syntax.specs.Expressions.{Ex as TreeEx, Exs as TreeExs, Elements as TreeElements, some, number, string, name, unary, binary, paren, call, selector, index, slice, array_type, slice_type, literal, elements, no_elements, element, spelled}
 use Rattle.typed_syntax.specs.Syntax.{Exs}
 use Rattle.constants.specs.declared.constant.Fixed.{Fixed}
 use Rattle.base.specs.declared.value_type.ValueType.{ValueType}
-use Rattle.type_faults.specs.Given.{allowed}
+use Rattle.type_faults.specs.Given.{allowed, both}
 use Rattle.base.specs.Types.{same_type}
 use Rattle.constants.specs.Constants.{constant_type, is_held, holds}
 use Rattle.type_faults.proofs.Options.{and_then_some, map_some, none_some, same_some}
 use Rattle.operators.specs.Operands.{Operand, constant, value, nil, type_of, as_value}
-use Rattle.operators.specs.Operators.{has_rules}
+use Rattle.operators.specs.Operators.{has_rules, prefixed, combined}
 use Rattle.operators.proofs.Held.{IsHeld}
 use Rattle.names.specs.declared.scope.Declared.{Declared}
 use Rattle.names.specs.declared.scope.Declared.TheVariants as declared
@@ -26,18 +25,20 @@ use Rattle.names.specs.declared.scope.Known.{Known}
 use Rattle.names.specs.declared.scope.Known.TheVariants as known_as
 use Rattle.names.specs.Scope.{Scope, declaration}
 use Rattle.names.specs.Naming.{name_in}
-use Rattle.names.specs.Types.{type_in}
+use Rattle.names.specs.Types.{array_type as array_of, type_in}
 use Rattle.names.proofs.Settled.{IsSound, AreSound}
-use Rattle.expression_types.specs.Typing.{Gives, one, called, asking, printed, global_read, constant_read, name_operand, prefix_gives, pair_gives, single, operand_in, value_in, part_in, Seen, listed, values, parts, type_in_one, Many, many_in, many, types_with, values_agree, each, fits_with, fits, all_values, taken, Callee, printer, panicker, reader, exiter, function, conversion, no_function, no_spread, no_text_spread, nothing, callee_value, callee_declared, exit_places, panicked_with, exited_with, called_with, spread_over, callee, gives, seen}
+use Rattle.operand_parts.specs.Parts.{selected, indexed}
+use Rattle.operand_parts.specs.ArrayTypes.{length_of, array_with}
+use Rattle.operand_parts.specs.Literals.{elided, type_elided, element_part}
+use Rattle.expression_types.specs.Typing.{Gives, one, called, asking, printed, global_read, constant_read, name_operand, prefix_gives, single, operand_in, value_in, part_in, Seen, listed, values, parts, type_in_one, Many, many_in, many, types_with, values_agree, each, fits_with, fits, all_values, taken, Callee, printer, panicker, reader, exiter, function, conversion, no_function, no_spread, no_text_spread, nothing, callee_value, callee_declared, exit_places, panicked_with, exited_with, called_with, spread_over, callee, literal_given, literal_gives, gives, stated_type, placed, seen}
 use Rattle.expression_types.proofs.Held.{operand_held}
 use Rattle.package_values.specs.declared.items.Role.{Role}
 use Rattle.package_values.specs.declared.items.Role.TheVariants as role
 use Rattle.package_values.specs.Values.{Item, as_constant, constant_in, with_type, known_variable, is_variable_type, accepted, given_by, initial_type, variable_type, given_as, given, look, looks}
 use Rattle.package_values.proofs.Growth.{known, Within, renewed, rounds}
-
--- a scope with these constants and variables
-abbrev pub holding : Scope → List (Option Known) → Scope
-holding s cs = record s { values = cs }
+use Rattle.package_values.proofs.Holding.{holding, select_same, part_same, literal_same}
+use Rattle.package_values.proofs.Literals.{AllPlaced, literal_typed, literal_placed, placed_alike}
+use Rattle.package_values.proofs.Stays.{Stays, map_stays, then_stays, both_stay}
 
 -- a variable is of a type whose variables have rules
 abbrev pub HasRules : Known → Type 0
@@ -59,16 +60,13 @@ a_constant (Some (constant g)) f h = ap (λ (x : Fixed). Some (constant x)) (sam
 a_constant (Some (value t x)) f h = absurd (none_some h)
 a_constant (Some nil) f h = absurd (none_some h)
 
-prefix_still : (op : UnOp) (b : Bool) (x y : Option Operand) → ((a : Operand) → x ≡ Some a → y ≡ Some a) → (g : Gives) → prefix_gives op b x ≡ Some g → prefix_gives op b y ≡ Some g
-prefix_still op false x y still g h = h
-prefix_still op true None y still g h = absurd (none_some h)
-prefix_still op true (Some a) y still g h = subst (λ (o : Option Operand). prefix_gives op true o ≡ Some g) (sym (still a refl)) h
+single_still : (o p : Option Gives) → Stays o p → Stays (operand_in o) (operand_in p)
+single_still o p still = then_stays single single o p (λ g. refl) still
 
-pair_still : (at : Pos) (op : BinOp) (x y u v : Option Operand) → ((a : Operand) → x ≡ Some a → u ≡ Some a) → ((a : Operand) → y ≡ Some a → v ≡ Some a) → (g : Gives) → pair_gives at op x y ≡ Some g → pair_gives at op u v ≡ Some g
-pair_still at op None y u v s1 s2 g h = absurd (none_some h)
-pair_still at op (Some a) None u v s1 s2 g h = absurd (none_some h)
-pair_still at op (Some a) (Some b) u v s1 s2 g h =
-    subst (λ (o : Option Operand). pair_gives at op o v ≡ Some g) (sym (s1 a refl)) (subst (λ (o : Option Operand). pair_gives at op (Some a) o ≡ Some g) (sym (s2 b refl)) h)
+prefix_still : (op : UnOp) (b : Bool) (x y : Option Operand) → Stays x y → Stays (prefix_gives op b x) (prefix_gives op b y)
+prefix_still op false x y still g h = h
+prefix_still op true x y still g h =
+    map_stays one (option_and_then (prefixed op) x) (option_and_then (prefixed op) y) (then_stays (prefixed op) (prefixed op) x y (λ a. refl) still) g h
 
 -- ---- expressions that all give something
 
@@ -162,6 +160,38 @@ module _ (text : List ℕ) (s : Scope) where
     callee_still at spread None x y os g h = absurd (no_value_call at spread (operand_in x) os g h)
     callee_still at spread (Some n) x y os g h = declared_still at spread (declaration s (spelled text n)) os g h
 
+    -- the one value that an expression gives where fewer are known, and where more are
+    abbrev fewer : TreeEx → Option Operand
+    fewer e = operand_in (gives text (holding s cs) e)
+
+    abbrev more : TreeEx → Option Operand
+    more e = operand_in (gives text (holding s ds) e)
+
+    selector_still : (e : TreeEx) (n : Name) → Stays (fewer e) (more e) → Stays (option_map one (option_and_then (selected text (holding s cs) n) (fewer e))) (option_map one (option_and_then (selected text (holding s ds) n) (more e)))
+    selector_still e n still =
+        map_stays one (option_and_then (selected text (holding s cs) n) (fewer e)) (option_and_then (selected text (holding s ds) n) (more e))
+        (then_stays (selected text (holding s cs) n) (selected text (holding s ds) n) (fewer e) (more e) (select_same text s cs ds n) still)
+
+    pair_still : (k : Operand → Operand → Option Operand) (a b : TreeEx) → Stays (fewer a) (more a) → Stays (fewer b) (more b) → Stays (option_map one (both k (fewer a) (fewer b))) (option_map one (both k (more a) (more b)))
+    pair_still k a b left right = map_stays one (both k (fewer a) (fewer b)) (both k (more a) (more b)) (both_stay k (fewer a) (more a) (fewer b) (more b) left right)
+
+    -- a literal whose elements are the same where all give something
+    literal_still : (t : Option ValueType) (es : TreeElements) → (AllPlaced (placed text (holding s cs) t 0 es) → placed text (holding s cs) t 0 es ≡ placed text (holding s ds) t 0 es)
+        → Stays (literal_gives text (holding s cs) t es) (literal_gives text (holding s ds) t es)
+    literal_still t es same g h =
+        let qs = placed text (holding s cs) t 0 es in
+        ap (literal_given text (holding s ds) t es) (sym (same (literal_placed text (holding s cs) t es qs g h))) ∙ sym (literal_same text s cs ds t es qs) ∙ h
+
+    -- a value that stays is the same
+    value_still : (x y : Option Operand) → Stays x y → ((a : Operand) × (x ≡ Some a)) → x ≡ y
+    value_still x y still has = has.1 ∙ sym (still has.0 has.1)
+
+    array_still : (len e : TreeEx) → Stays (fewer len) (more len) → Stays (stated_type text (holding s cs) e) (stated_type text (holding s ds) e)
+        → Stays (array_with s.types (option_and_then length_of (fewer len)) (stated_type text (holding s cs) e)) (array_with s.types (option_and_then length_of (more len)) (stated_type text (holding s ds) e))
+    array_still len e length1 of =
+        both_stay (array_of s.types) (option_and_then length_of (fewer len)) (option_and_then length_of (more len)) (stated_type text (holding s cs) e) (stated_type text (holding s ds) e)
+        (then_stays length_of length_of (fewer len) (more len) (λ x. refl) length1) of
+
     mutual
       pub gives_still : (e : TreeEx) (g : Gives) → gives text (holding s cs) e ≡ Some g → gives text (holding s ds) e ≡ Some g
       gives_still (number at n) g h = h
@@ -169,13 +199,10 @@ module _ (text : List ℕ) (s : Scope) where
       gives_still (name n) g h =
           let d = declaration s (spelled text n) in
           let p = map_some one (name_operand (holding s cs) d) g h in ap (option_map one) (name_still d p.0 p.1) ∙ ap Some p.2
-      gives_still (unary at op e) g h =
-          prefix_still op (has_rules op) (operand_in (gives text (holding s cs) e)) (operand_in (gives text (holding s ds) e))
-          (λ x k. let p = and_then_some single (gives text (holding s cs) e) x k in ap operand_in (gives_still e p.0 p.1) ∙ p.2) g h
+      gives_still (unary at op e) g h = prefix_still op (has_rules op) (fewer e) (more e) (single_still (gives text (holding s cs) e) (gives text (holding s ds) e) (gives_still e)) g h
       gives_still (binary at op a b) g h =
-          pair_still at op (operand_in (gives text (holding s cs) a)) (operand_in (gives text (holding s cs) b)) (operand_in (gives text (holding s ds) a)) (operand_in (gives text (holding s ds) b))
-          (λ x k. let p = and_then_some single (gives text (holding s cs) a) x k in ap operand_in (gives_still a p.0 p.1) ∙ p.2)
-          (λ x k. let p = and_then_some single (gives text (holding s cs) b) x k in ap operand_in (gives_still b p.0 p.1) ∙ p.2) g h
+          pair_still (combined at op) a b (single_still (gives text (holding s cs) a) (gives text (holding s ds) a) (gives_still a))
+          (single_still (gives text (holding s cs) b) (gives text (holding s ds) b) (gives_still b)) g h
       gives_still (paren at e) g h = gives_still e g h
       gives_still (call f es spread) g h =
           let k = callee text (holding s cs) (name_in f) (gives text (holding s cs) f) in
@@ -185,13 +212,36 @@ module _ (text : List ℕ) (s : Scope) where
           let os_is : os ≡ seen text (holding s ds) es = seen_still es (call_gives (first_pos f) (spread_over spread k) os g h) in
           sym (ap (λ (x : Callee). called_with (first_pos f) (spread_over spread x) os) k_is
           ∙ ap (λ (l : List Seen). called_with (first_pos f) (spread_over spread (callee text (holding s ds) (name_in f) (gives text (holding s ds) f))) l) os_is) ∙ h
-      gives_still (selector e at n) g h = h
-      gives_still (index e at i) g h = h
+      gives_still (selector e at n) g h = selector_still e n (single_still (gives text (holding s cs) e) (gives text (holding s ds) e) (gives_still e)) g h
+      gives_still (index e at i) g h =
+          pair_still (indexed s.types at) e i (single_still (gives text (holding s cs) e) (gives text (holding s ds) e) (gives_still e))
+          (single_still (gives text (holding s cs) i) (gives text (holding s ds) i) (gives_still i)) g h
       gives_still (slice e at low high) g h = h
       gives_still (array_type at len e) g h = h
       gives_still (slice_type at e) g h = h
-      gives_still (literal e es) g h = h
+      gives_still (literal e es) g h =
+          let t = stated_type text (holding s cs) e in
+          let u = literal_typed text (holding s cs) t es (placed text (holding s cs) t 0 es) g h in
+          ap (λ (o : Option ValueType). literal_gives text (holding s ds) o es) (stated_still e u.0 u.1 ∙ sym u.1) ∙ literal_still t es (placed_still es t 0) g h
       gives_still (elements at es) g h = h
+
+      stated_still : (e : TreeEx) (t : ValueType) → stated_type text (holding s cs) e ≡ Some t → stated_type text (holding s ds) e ≡ Some t
+      stated_still (name n) t h = h
+      stated_still (paren at e) t h = stated_still e t h
+      stated_still (array_type at len e) t h = array_still len e (single_still (gives text (holding s cs) len) (gives text (holding s ds) len) (gives_still len)) (stated_still e) t h
+      stated_still e t h = h
+
+      placed_still : (es : TreeElements) (t : Option ValueType) (n : ℕ) → AllPlaced (placed text (holding s cs) t n es) → placed text (holding s cs) t n es ≡ placed text (holding s ds) t n es
+      placed_still no_elements t n all = refl
+      placed_still (element key (elements at es) rest) t n all =
+          let u = type_elided (elided s.types t) in
+          let o = literal_gives text (holding s cs) u es in
+          let p = literal_gives text (holding s ds) u es in
+          placed_alike (element_part text (holding s cs) t n key) (element_part text (holding s ds) t n key) at (operand_in o) (operand_in p) (placed text (holding s cs) t (1 + n) rest) (placed text (holding s ds) t (1 + n) rest)
+          (part_same text s cs ds t n key) (value_still (operand_in o) (operand_in p) (single_still o p (literal_still u es (placed_still es u 0))) all.0) (placed_still rest t (1 + n) all.1)
+      placed_still (element key e rest) t n all =
+          placed_alike (element_part text (holding s cs) t n key) (element_part text (holding s ds) t n key) (first_pos e) (fewer e) (more e) (placed text (holding s cs) t (1 + n) rest) (placed text (holding s ds) t (1 + n) rest)
+          (part_same text s cs ds t n key) (value_still (fewer e) (more e) (single_still (gives text (holding s cs) e) (gives text (holding s ds) e) (gives_still e)) all.0) (placed_still rest t (1 + n) all.1)
 
       pub seen_still : (es : TreeExs) → AllGive (seen text (holding s cs) es) → seen text (holding s cs) es ≡ seen text (holding s ds) es
       seen_still tree.none all = refl
@@ -199,8 +249,8 @@ module _ (text : List ℕ) (s : Scope) where
           ap (λ (o : Option Gives). record { at = first_pos e; gives = o } ∷ seen text (holding s cs) es) (all.0.1 ∙ sym (gives_still e all.0.0 all.0.1))
           ∙ ap (λ (os : List Seen). record { at = first_pos e; gives = gives text (holding s ds) e } ∷ os) (seen_still es all.1)
 
-    operand_still : (e : TreeEx) (x : Operand) → operand_in (gives text (holding s cs) e) ≡ Some x → operand_in (gives text (holding s ds) e) ≡ Some x
-    operand_still e x h = let p = and_then_some single (gives text (holding s cs) e) x h in ap operand_in (gives_still e p.0 p.1) ∙ p.2
+    operand_still : (e : TreeEx) → Stays (fewer e) (more e)
+    operand_still e = single_still (gives text (holding s cs) e) (gives text (holding s ds) e) (gives_still e)
 
     accepted_same : (t : Option TreeEx) (c : Fixed) → accepted text (holding s cs) t c ≡ accepted text (holding s ds) t c
     accepted_same None c = refl

@@ -4,7 +4,8 @@ use Rattle.names.specs.declared.scope.Known.{Known}
 use Rattle.names.specs.Scope.{Scope}
 use Rattle.package_values.specs.Values.{Item, settled}
 use Rattle.package_values.proofs.Growth.{rounds, rounds_many}
-use Rattle.package_values.proofs.Giving.{holding, give, monotone, looks_are}
+use Rattle.package_values.proofs.Holding.{holding}
+use Rattle.package_values.proofs.Giving.{give, monotone, looks_are}
 
 module _ (text : List ℕ) (s : Scope) (is : List Item) where
   abbrev values : List (Option Known)

@@ -2,6 +2,9 @@ pub mod AllKnown
 pub mod ItemLists
 pub mod Giving
 pub mod Growth
+pub mod Holding
+pub mod Stays
+pub mod Literals
 pub mod Leaving
 pub mod Least
 pub mod Rules

@@ -36,7 +36,8 @@ use Rattle.package_values.specs.Needs.{has_form, have_form}
 use Rattle.package_values.specs.ValueFaults.{is_this_value, value_fault, value_name_fault, single_count, ValuesFail, is_bare, type_asked, TypeFails, SpecFails, SpecsFail, form_fault, FormsFail, left_out_fault, ValuesLeftOut, LeftOut, InitialsFail, VariablesFail, AllVariablesFail, DeclarationsFail, NamesFail}
 use Rattle.package_values.specs.Accepted.{TypeIs, ConstantValuesAre, ConstantsAre, AllConstantsAre, OwnTypesAre, VariableTypesAre, InitialsAre, VariablesAre, AllVariablesAre, SpecsAre, NamesAre, DeclarationsAre}
 use Rattle.package_values.proofs.Growth.{known, rounds_many}
-use Rattle.package_values.proofs.Giving.{holding, give, monotone, a_constant, allowed_gives, looks_are}
+use Rattle.package_values.proofs.Holding.{holding}
+use Rattle.package_values.proofs.Giving.{give, monotone, a_constant, allowed_gives, looks_are}
 use Rattle.package_values.proofs.AllKnown.{IsTypedOnceKnown, typed_by, all_map, behind}
 
 abbrev Never : (Fault → Type 0) → Type 0

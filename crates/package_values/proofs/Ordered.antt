@@ -7,18 +7,17 @@ use Rattle.std.proofs.lemmas.List.{length-map}
 use Rattle.std.proofs.lemmas.Option.{slice_get_within}
 use Rattle.base.specs.declared.pos.Pos.{Pos}
 use Rattle.base.specs.declared.value_type.ValueType.{ValueType}
-use Rattle.syntax.specs.declared.operator.BinOp.{BinOp}
 use Rattle.syntax.specs.declared.operator.UnOp.{UnOp}
 use Rattle.syntax.specs.declared.expression.Name.{Name}
 use Rattle.syntax.specs.FirstBytes.{first_pos}
 use Rattle.syntax.specs.Expressions as tree
-use Rattle.syntax.specs.Expressions.{Ex as TreeEx, Exs as TreeExs, some, number, string, name, unary, binary, paren, call, selector, index, slice, array_type, slice_type, literal, elements, spelled}
+use Rattle.syntax.specs.Expressions.{Ex as TreeEx, Exs as TreeExs, Elements as TreeElements, some, number, string, name, unary, binary, paren, call, selector, index, slice, array_type, slice_type, literal, elements, no_elements, element, spelled}
 use Rattle.constants.specs.declared.constant.Fixed.{Fixed}
 use Rattle.typed.specs.Tables.{Table}
-use Rattle.type_faults.specs.Given.{allowed}
+use Rattle.type_faults.specs.Given.{allowed, both}
 use Rattle.type_faults.proofs.Options.{and_then_some, map_some, none_some, same_some}
 use Rattle.operators.specs.Operands.{Operand, type_of, as_value}
-use Rattle.operators.specs.Operators.{has_rules}
+use Rattle.operators.specs.Operators.{has_rules, combined}
 use Rattle.components.specs.Graph.{Among, row, Leads, at_once, through, Reaches, itself, onward}
 use Rattle.components.specs.Components.{StandsAt, Stands, AreComponents}
 use Rattle.names.specs.declared.scope.Declared.{Declared}
@@ -27,16 +26,21 @@ use Rattle.names.specs.declared.scope.Known.{Known}
 use Rattle.names.specs.declared.scope.Known.TheVariants as known_as
 use Rattle.names.specs.Scope.{Scope, declaration}
 use Rattle.names.specs.Naming.{name_in}
-use Rattle.names.specs.Types.{type_in, declared_type}
-use Rattle.expression_types.specs.Typing.{Gives, one, global_read, constant_read, name_operand, prefix_gives, pair_gives, single, operand_in, own_type, Many, many, Seen, called_with, spread_over, callee, callee_declared, gives, seen}
+use Rattle.names.specs.Types.{array_type as array_of, type_in, declared_type}
+use Rattle.operand_parts.specs.Parts.{selected, indexed}
+use Rattle.operand_parts.specs.ArrayTypes.{length_of, array_with}
+use Rattle.operand_parts.specs.Literals.{elided, type_elided}
+use Rattle.expression_types.specs.Typing.{Gives, one, global_read, constant_read, name_operand, prefix_gives, single, operand_in, own_type, Many, many, Seen, called_with, spread_over, callee, callee_declared, literal_gives, gives, stated_type, placed, seen}
 use Rattle.package_values.specs.declared.items.Role.{Role}
 use Rattle.package_values.specs.declared.items.Role.TheVariants as role
 use Rattle.package_values.specs.Values.{Item, as_constant, constant_in, with_type, known_variable, accepted, given_by, variable_type, given_as, settled}
-use Rattle.package_values.specs.Needs.{names_in, names_in_each, names_in_some, names_waited, value_number, also, numbers_of, variable_mentions, mentions_as, mentions, mentioned}
+use Rattle.package_values.specs.Needs.{names_in, names_in_each, names_in_elements, names_in_some, names_waited, value_number, also, numbers_of, variable_mentions, mentions_as, mentions, mentioned}
 use Rattle.package_values.specs.Laws.{HasValue, follows, HoldsValues}
 use Rattle.package_values.specs.Passing.{each_given, all_given}
 use Rattle.package_values.proofs.Growth.{known, set_known, set_others, set_many}
-use Rattle.package_values.proofs.Giving.{holding, give, type_same, no_value_call, AllGive, call_gives, many_give}
+use Rattle.package_values.proofs.Holding.{holding}
+use Rattle.package_values.proofs.Literals.{AllPlaced, literal_typed, literal_placed}
+use Rattle.package_values.proofs.Giving.{give, type_same, no_value_call, AllGive, call_gives, many_give}
 use Rattle.package_values.proofs.Same.{NameSame, AllSame, all_right, gives_same, seen_same}
 use Rattle.package_values.proofs.Least.{set_has, settled_is_least}
 
@@ -47,10 +51,10 @@ prefix_has op false o g h = absurd (none_some h)
 prefix_has op true None g h = absurd (none_some h)
 prefix_has op true (Some x) g h = (x, refl)
 
-pair_has : (at : Pos) (op : BinOp) (a b : Option Operand) (g : Gives) → pair_gives at op a b ≡ Some g → (x y : Operand) × (a ≡ Some x) × (b ≡ Some y)
-pair_has at op None b g h = absurd (none_some h)
-pair_has at op (Some x) None g h = absurd (none_some h)
-pair_has at op (Some x) (Some y) g h = (x, y, refl, refl)
+both_has : {A B C : Type 0} (k : A → B → Option C) (a : Option A) (b : Option B) (c : C) → both k a b ≡ Some c → ((x : A) × (a ≡ Some x)) × ((y : B) × (b ≡ Some y))
+both_has k None b c h = absurd (none_some h)
+both_has k (Some x) None c h = absurd (none_some h)
+both_has k (Some x) (Some y) c h = ((x, refl), (y, refl))
 
 -- ---- what has a value doesn't rest on itself
 
@@ -140,40 +144,82 @@ module _ (text : List ℕ) (s : Scope) where
     callee_known at spread (paren place e) os g h = callee_known at spread e os g h
     callee_known at spread e os g h = absurd (no_value_call at spread (operand_in (gives text (holding s cs) e)) os g h)
 
+    -- where one value names what is known
+    by_operand : (e : TreeEx) → ((g : Gives) → gives text (holding s cs) e ≡ Some g → AllKnown cs (names_in e)) → (x : Operand) → operand_in (gives text (holding s cs) e) ≡ Some x → AllKnown cs (names_in e)
+    by_operand e known1 x h = let p = and_then_some single (gives text (holding s cs) e) x h in known1 p.0 p.1
+
+    -- two operands that make something
+    by_operands : (k : Operand → Operand → Option Operand) (a b : TreeEx) → ((g : Gives) → gives text (holding s cs) a ≡ Some g → AllKnown cs (names_in a)) → ((g : Gives) → gives text (holding s cs) b ≡ Some g → AllKnown cs (names_in b))
+        → (g : Gives) → option_map one (both k (operand_in (gives text (holding s cs) a)) (operand_in (gives text (holding s cs) b))) ≡ Some g → AllKnown cs (names_in a ++ names_in b)
+    by_operands k a b left right g h =
+        let p = map_some one (both k (operand_in (gives text (holding s cs) a)) (operand_in (gives text (holding s cs) b))) g h in
+        let x = both_has k (operand_in (gives text (holding s cs) a)) (operand_in (gives text (holding s cs) b)) p.0 p.1 in
+        known_append cs (names_in a) (names_in b) (by_operand a left x.0.0 x.0.1) (by_operand b right x.1.0 x.1.1)
+
+    type_name_known : (T : Table) (d : Option Declared) (t : ValueType) → declared_type T d ≡ Some t → NameKnown cs d
+    type_name_known T (Some (declared.Constant k)) t h = absurd (none_some h)
+    type_name_known T (Some (declared.Global k g)) t h = absurd (none_some h)
+    type_name_known T d t h = tt
+
+    array_known : (len e : TreeEx) → ((g : Gives) → gives text (holding s cs) len ≡ Some g → AllKnown cs (names_in len)) → ((t : ValueType) → stated_type text (holding s cs) e ≡ Some t → AllKnown cs (names_in e))
+        → (t : ValueType) → array_with s.types (option_and_then length_of (operand_in (gives text (holding s cs) len))) (stated_type text (holding s cs) e) ≡ Some t → AllKnown cs (names_in len ++ names_in e)
+    array_known len e length1 of t h =
+        let o = operand_in (gives text (holding s cs) len) in
+        let x = both_has (array_of s.types) (option_and_then length_of o) (stated_type text (holding s cs) e) t h in
+        let p = and_then_some length_of o x.0.0 x.0.1 in
+        known_append cs (names_in len) (names_in e) (by_operand len length1 p.0 p.1) (of x.1.0 x.1.1)
+
+    by_literal : (t : Option ValueType) (es : TreeElements) → (AllPlaced (placed text (holding s cs) t 0 es) → AllKnown cs (names_in_elements es))
+        → (x : Operand) → operand_in (literal_gives text (holding s cs) t es) ≡ Some x → AllKnown cs (names_in_elements es)
+    by_literal t es all x h =
+        let p = and_then_some single (literal_gives text (holding s cs) t es) x h in all (literal_placed text (holding s cs) t es (placed text (holding s cs) t 0 es) p.0 p.1)
+
     mutual
       gives_known : (e : TreeEx) (g : Gives) → gives text (holding s cs) e ≡ Some g → AllKnown cs (names_in e)
       gives_known (number at n) g h = tt
       gives_known (string at behind) g h = tt
       gives_known (name n) g h = let p = map_some one (name_operand (holding s cs) (declaration s (spelled text n))) g h in (operand_known (declaration s (spelled text n)) p.0 p.1, tt)
       gives_known (unary at op e) g h =
-          let x = prefix_has op (has_rules op) (operand_in (gives text (holding s cs) e)) g h in
-          let p = and_then_some single (gives text (holding s cs) e) x.0 x.1 in gives_known e p.0 p.1
-      gives_known (binary at op a b) g h =
-          let x = pair_has at op (operand_in (gives text (holding s cs) a)) (operand_in (gives text (holding s cs) b)) g h in
-          let p = and_then_some single (gives text (holding s cs) a) x.0 x.2 in
-          let q = and_then_some single (gives text (holding s cs) b) x.1 x.3 in
-          known_append cs (names_in a) (names_in b) (gives_known a p.0 p.1) (gives_known b q.0 q.1)
+          let x = prefix_has op (has_rules op) (operand_in (gives text (holding s cs) e)) g h in by_operand e (gives_known e) x.0 x.1
+      gives_known (binary at op a b) g h = by_operands (combined at op) a b (gives_known a) (gives_known b) g h
       gives_known (paren at e) g h = gives_known e g h
       gives_known (call f es spread) g h =
           let k = callee text (holding s cs) (name_in f) (gives text (holding s cs) f) in
           let os = seen text (holding s cs) es in
           known_append cs (names_in f) (names_in_each es) (callee_known (first_pos f) spread f os g h) (seen_known es (call_gives (first_pos f) (spread_over spread k) os g h))
-      gives_known (selector e at n) g h = absurd (none_some h)
-      gives_known (index e at i) g h = absurd (none_some h)
+      gives_known (selector e at n) g h =
+          let o = operand_in (gives text (holding s cs) e) in
+          let p = map_some one (option_and_then (selected text (holding s cs) n) o) g h in
+          let q = and_then_some (selected text (holding s cs) n) o p.0 p.1 in
+          by_operand e (gives_known e) q.0 q.1
+      gives_known (index e at i) g h = by_operands (indexed s.types at) e i (gives_known e) (gives_known i) g h
       gives_known (slice e at low high) g h = absurd (none_some h)
       gives_known (array_type at len e) g h = absurd (none_some h)
       gives_known (slice_type at e) g h = absurd (none_some h)
-      gives_known (literal e es) g h = absurd (none_some h)
+      gives_known (literal e es) g h =
+          let t = stated_type text (holding s cs) e in
+          let qs = placed text (holding s cs) t 0 es in
+          let u = literal_typed text (holding s cs) t es qs g h in
+          known_append cs (names_in e) (names_in_elements es) (stated_known e u.0 u.1) (placed_known es t 0 (literal_placed text (holding s cs) t es qs g h))
       gives_known (elements at es) g h = absurd (none_some h)
+
+      stated_known : (e : TreeEx) (t : ValueType) → stated_type text (holding s cs) e ≡ Some t → AllKnown cs (names_in e)
+      stated_known (name n) t h = (type_name_known s.types (declaration s (spelled text n)) t h, tt)
+      stated_known (paren at e) t h = stated_known e t h
+      stated_known (array_type at len e) t h = array_known len e (gives_known len) (stated_known e) t h
+      stated_known e t h = absurd (none_some h)
+
+      placed_known : (es : TreeElements) (t : Option ValueType) (n : ℕ) → AllPlaced (placed text (holding s cs) t n es) → AllKnown cs (names_in_elements es)
+      placed_known no_elements t n all = tt
+      placed_known (element key (elements at es) rest) t n all =
+          let u = type_elided (elided s.types t) in
+          known_append cs (names_in_elements es) (names_in_elements rest) (by_literal u es (placed_known es u 0) all.0.0 all.0.1) (placed_known rest t (1 + n) all.1)
+      placed_known (element key e rest) t n all =
+          known_append cs (names_in e) (names_in_elements rest) (by_operand e (gives_known e) all.0.0 all.0.1) (placed_known rest t (1 + n) all.1)
 
       seen_known : (es : TreeExs) → AllGive (seen text (holding s cs) es) → AllKnown cs (names_in_each es)
       seen_known tree.none all = tt
       seen_known (some e es) all = known_append cs (names_in e) (names_in_each es) (gives_known e all.0.0 all.0.1) (seen_known es all.1)
-
-    type_name_known : (T : Table) (d : Option Declared) (t : ValueType) → declared_type T d ≡ Some t → NameKnown cs d
-    type_name_known T (Some (declared.Constant k)) t h = absurd (none_some h)
-    type_name_known T (Some (declared.Global k g)) t h = absurd (none_some h)
-    type_name_known T d t h = tt
 
     type_known : (e : TreeEx) (t : ValueType) → type_in text (holding s cs) e ≡ Some t → AllKnown cs (names_in e)
     type_known (name n) t h = (type_name_known s.types (declaration s (spelled text n)) t h, tt)
@@ -181,7 +227,7 @@ module _ (text : List ℕ) (s : Scope) where
     type_known e t h = absurd (none_some h)
 
     operand_names : (e : TreeEx) (x : Operand) → operand_in (gives text (holding s cs) e) ≡ Some x → AllKnown cs (names_in e)
-    operand_names e x h = let p = and_then_some single (gives text (holding s cs) e) x h in gives_known e p.0 p.1
+    operand_names e = by_operand e (gives_known e)
 
     accepted_known : (t : Option TreeEx) (c f : Fixed) → accepted text (holding s cs) t c ≡ Some f → AllKnown cs (names_in_some t)
     accepted_known None c f h = tt

@@ -1,13 +1,15 @@
 //! The values of constants and the types of variables.
 
-ghost use Rattle.std.specs.Prelude.{◌≡◌, IfOk, OnOk, ℕ, None, length, option_and_then};
+ghost use Rattle.std.specs.Prelude.{◌≡◌, IfOk, OnOk, ℕ, None, length, slice_get, option_and_then, ◌==◌};
 ghost use Rattle.std.specs.Option.{option_map};
 ghost use Rattle.syntax.specs.Expressions.{ex_in, exs_of};
 ghost use Rattle.syntax.specs.Declarations.{declarations_of};
+ghost use Rattle.type_faults.specs.Given.{allowed};
 ghost use Rattle.components.specs.Components.{component_lists};
 ghost use Rattle.names.specs.Scope.{scope_of, known};
 ghost use Rattle.names.specs.declared.scope.Known.TheVariants.{Constant as ConstantKnown};
-ghost use Rattle.expression_types.specs.Passing.{gives_of};
+ghost use Rattle.expression_types.specs.Typing.{many};
+ghost use Rattle.expression_types.specs.Passing.{gives_of, seens};
 ghost use Rattle.package_values.specs.Values.{constant_in, with_type, accepted, given_by, is_variable_type, known_variable, initial_type, variable_type, given, settled, items_in};
 ghost use Rattle.package_values.specs.Passing.{item_of, item_views, given_at, each_given, all_given};
 
@@ -98,6 +100,16 @@ fn known_variable(value_type: ValueType) -> Option<Known>
     }
 }
 
+/// The type at a place of the call that stands alone, where it has as many results as there are names.
+fn nth_type(items: &[expression_types::Item], names: usize, place: usize) -> Option<ValueType>
+    ensures { result ≡ option_and_then (λ m. allowed (length m.types == names) (slice_get m.types place)) (many (seens items.now)) }
+{
+    match many_types(items) {
+        Some((_, types)) if types.len() == names => types.get(place).copied(),
+        _ => None,
+    }
+}
+
 /// The type of a result of the call that stands alone, where it has as many as there are names.
 fn result_type(
     alloc: Global,
@@ -110,10 +122,9 @@ fn result_type(
     ensures { IfOk result (λ r. r ≡ initial_type text.now (scope_of scope.now) None (exs_of values.now) names place) }
 {
     let listed = check_list(alloc, text, scope, values)?;
-    Ok(match many_types(&listed.items) {
-        Some((_, types)) if types.len() == names => types.get(place).copied(),
-        _ => None,
-    })
+    let value_type = nth_type(&listed.items, names, place);
+    drop(listed);
+    Ok(value_type)
 }
 
 /// The type that the values of a declaration give a variable.

@@ -12,7 +12,9 @@ use Rattle.names.specs.Scope.{Scope, scope_of, opened, closed}
 use Rattle.types_go.proofs.blocks.+statements.Goals as goal
 use Rattle.simple_statements.specs.SimpleStatements.{returns_view}
 use Rattle.simple_statements.specs.SimpleFaults.{FailsInSpecs}
-use Rattle.types_go.specs.Statements.{header, clause_scope, behind_all}
+use Rattle.typed.specs.View.{sts_of}
+use Rattle.types_go.specs.StatementPassing.{choice_view}
+use Rattle.types_go.specs.Statements.{alone, choice_of, guard_head, statement, statements, alternative, header, clause_scope, behind_all}
 use Rattle.types_go.specs.StatementFaults.{FailsInStatement, FailsInStatements, FailsInElse}
 use Rattle.types_go.proofs.StatementGrowth.{grows_header, grows_clause, grows_all, keeps_block, keeps_else}
 use Rattle.types_go.proofs.Sequences.{choice_least, loop_least, KeptStatements, split, nothing_left, one_more, given_all, at_end}
@@ -144,6 +146,40 @@ check_else-returns-in_ok-rest-in-If-clause-fault t c =
     subst (λ (x : Els). IsLeast (FailsInElse text rets looped s x) (lesser (lesser head.fault body.fault) rest.fault)) (sym shape)
     (choice_least text rets looped s at g ms later head.fault body.fault rest.fault c.in_ok-head-in-If.ensures.fault b r) in
     if_ok _ (λ l. IsLeast (FailsInElse text rets looped s (els_of c.args.e.now)) l.fault) c.choice.result (λ l e. subst (λ f. IsLeast (FailsInElse text rets looped s (els_of c.args.e.now)) f) (sym e) whole) c.choice.ensures.fault
+
+-- by hand, since `search` enters no more than 128 records
+pub check_stmt-returns-in_ok-rest-in-If-clause-statements : goal.check_stmt-returns-in_ok-rest-in-If-clause-statements
+check_stmt-returns-in_ok-rest-in-If-clause-statements t c =
+    let text = c.args.text.now in
+    let rets = returns_view c.args.returns.now in
+    let looped = c.args.looped in
+    let s = scope_of c.args.scope.now in
+    let g = guard_of c.in-If.guard in
+    let h = header text s g.init in
+    let ms = stms_of c.in-If.body.items in
+    let inner = closed (behind_all text (opened h) ms) in
+    let later = els_of c.in-If.rest in
+    let head = c.in_ok-head-in-If.head in
+    let body = c.in_ok-body-in-If.body in
+    let rest = c.in_ok-rest-in-If.rest in
+    let B = option_map (λ v. sts_of v.items) body.statements in
+    let R = option_map (λ v. sts_of v.items) rest.statements in
+    let shape : stm_of c.args.s.now ≡ if_stmt c.in-If.pos g ms later = grind (arith, stmt_rows) in
+    let h_is : scope_of c.check_guard.new.scope ≡ h = c.in_ok-head-in-If.ensures.scope in
+    let b : B ≡ statements text rets looped (opened h) ms =
+    subst (λ (v : Scope). B ≡ statements text rets looped (opened v) ms) h_is
+    (subst (λ (l : List Stmt). B ≡ statements text rets looped (opened (scope_of c.check_guard.new.scope)) (stms_of l)) c.deref-in-If.ensures.value c.in_ok-body-in-If.ensures.statements) in
+    let scope : scope_of c.check_inner-in-If.new.scope ≡ inner =
+    c.in_ok-body-in-If.ensures.scope ∙ ap (λ (l : List Stmt). closed (behind_all text (opened (scope_of c.check_guard.new.scope)) (stms_of l))) c.deref-in-If.ensures.value
+    ∙ ap (λ (v : Scope). closed (behind_all text (opened v) ms)) h_is in
+    let r : R ≡ alternative text rets looped inner later = subst (λ (v : Scope). R ≡ alternative text rets looped v later) scope c.in_ok-rest-in-If.ensures.statements in
+    let G = guard_head text s g in
+    let given : option_map alone (choice_of (option_map choice_view head.choice) B R) ≡ statement text rets looped s (if_stmt c.in-If.pos g ms later) =
+    ap (λ o. option_map alone (choice_of o B R)) c.in_ok-head-in-If.ensures.choice ∙ ap (λ o. option_map alone (choice_of G o R)) b
+    ∙ ap (λ o. option_map alone (choice_of G (statements text rets looped (opened h) ms) o)) r in
+    let whole : option_map alone (choice_of (option_map choice_view head.choice) B R) ≡ statement text rets looped s (stm_of c.args.s.now) =
+    subst (λ (x : Stm). option_map alone (choice_of (option_map choice_view head.choice) B R) ≡ statement text rets looped s x) (sym shape) given in
+    if_ok _ (λ l. option_map (λ v. sts_of v.items) l.statements ≡ statement text rets looped s (stm_of c.args.s.now)) c.choice.result (λ l e. e ∙ whole) c.choice.ensures.statements
 
 pub check_stmt-returns-in_ok-rest-in-If-clause-fault : goal.check_stmt-returns-in_ok-rest-in-If-clause-fault
 check_stmt-returns-in_ok-rest-in-If-clause-fault t c =
