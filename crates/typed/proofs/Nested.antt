@@ -91,12 +91,15 @@ pub made : (T : Table) → IsFormed T → TreesAreMade T
 made T formed = made_by T (deep T formed)
 
 -- a struct that's told has a tree
-pub told_tree : (T : Table) → IsFormed T → (r : StructId) (fields : List TypeId) → fields_of T r.0 ≡ Some fields → (x : TypeTree) × (tree_of T (Struct r) ≡ Some x)
+pub told_tree_by : (T : Table) → IsDeep T → (r : StructId) (fields : List TypeId) → fields_of T r.0 ≡ Some fields → (x : TypeTree) × (tree_of T (Struct r) ≡ Some x)
 unfolding tree_of
-told_tree T formed r fields p =
-    let x = formed.nested r fields p in
+told_tree_by T nests r fields p =
+    let x = nests.nested r fields p in
     let k = depth_is T in
     (x.0, within_grows T T (same_table T) (base_of T) (depth_of T) (omega arith) (Struct r) x.0 x.1)
+
+pub told_tree : (T : Table) → IsFormed T → (r : StructId) (fields : List TypeId) → fields_of T r.0 ≡ Some fields → (x : TypeTree) × (tree_of T (Struct r) ≡ Some x)
+told_tree T formed = told_tree_by T (deep T formed)
 
 -- and one that isn't has none
 pub untold_tree : (T : Table) (r : StructId) → fields_of T r.0 ≡ None → tree_of T (Struct r) ≡ None

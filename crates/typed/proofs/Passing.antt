@@ -20,9 +20,10 @@ use Rattle.typed.specs.Memory.{fields_in, table_of, IsCounted, struct_words, tol
 use Rattle.typed.proofs.Lists.{get_map_take, map_take_more, none_take_more, none_at, any_at, get_set, map_set}
 use Rattle.typed.proofs.Limits.{none_over, not_refused}
 use Rattle.typed.proofs.Counted.{words_mapped, array_words_by, struct_kept}
+use Rattle.typed.proofs.Nested.{deep}
 use Rattle.typed.proofs.Telling.{IsUntold, made_now, told_words, other_words, formed_told, telling_keeps}
 
-not_over_by : (o : Option ℕ) → ((w : ℕ) → o ≡ Some w → w ≤ 65535) → is_over o ≡ false
+pub not_over_by : (o : Option ℕ) → ((w : ℕ) → o ≡ Some w → w ≤ 65535) → is_over o ≡ false
 not_over_by None l = le-ltb 65535 0 (omega arith)
 not_over_by (Some w) l = le-ltb 65535 w (l w refl)
 
@@ -40,14 +41,14 @@ module _ (types : List ValueType) (told : List (Option Told)) (words : List (Opt
     U = with_fields T s fields
 
     told_is : (before : List (Option ℕ)) (t : ValueType) → ((n : ℕ) (e : TypeId) → t ≡ Array n e → get_or before e.0 None ≡ words_at U e.0) → told_by before told s sum t ≡ words_of U t
-    told_is before Int h = sym (ap (option_map width) (made_now T formed s untold fields have Int))
-    told_is before Truth h = sym (ap (option_map width) (made_now T formed s untold fields have Truth))
+    told_is before Int h = sym (ap (option_map width) (made_now T (deep T formed) s untold fields have Int))
+    told_is before Truth h = sym (ap (option_map width) (made_now T (deep T formed) s untold fields have Truth))
     told_is before (Struct r) h = by (r.0 == s) refl
       where
         by : (b : Bool) → (r.0 == s) ≡ b → (if b then Some sum else struct_words told r.0) ≡ words_of U (Struct r)
-        by true e = ap (λ w. Some w) summed ∙ sym (told_words T formed s untold fields have r (eqb-true r.0 s e))
-        by false e = struct_kept types told words formed counted r ∙ sym (other_words T formed s untold fields have r e)
-    told_is before (Array n e) h = ap (option_map (λ w. n * w)) (h n e refl) ∙ sym (array_words_by U (made_now T formed s untold fields have) n e)
+        by true e = ap (λ w. Some w) summed ∙ sym (told_words T (deep T formed) s untold fields have r (eqb-true r.0 s e))
+        by false e = struct_kept types told words formed counted r ∙ sym (other_words T (deep T formed) s untold fields have r e)
+    told_is before (Array n e) h = ap (option_map (λ w. n * w)) (h n e refl) ∙ sym (array_words_by U (made_now T (deep T formed) s untold fields have) n e)
 
     pub step_is : (before : List (Option ℕ)) (i : ℕ) (d : ValueType) → i < length types → before ≡ map (words_of U) (take i types) → told_by before told s sum (get_or types i d) ≡ words_of U (get_or types i d)
     step_is before i d l is = told_is before (get_or types i d) by
@@ -81,8 +82,8 @@ module _ (types : List ValueType) (told : List (Option Told)) (words kept : List
   struct_after : (r : StructId) (x : Told) → slice_get (slice_set told s (Some t)) r.0 ≡ Some (Some x) → words_of (with_fields (table_of types told) s t.fields.items) (Struct r) ≡ Some x.words
   struct_after r x h =
       elim (get_set told s r.0 (Some t) (Some x) h) [
-        | inl a ↦ told_words (table_of types told) formed s untold t.fields.items have r a.0 ∙ ap (λ w. Some w) (sym summed) ∙ ap (λ o. option_map (λ y. y.words) o) a.1
-        | inr a ↦ other_words (table_of types told) formed s untold t.fields.items have r (differ (r.0 == s) refl a.0) ∙ counted.structs r x a.1
+        | inl a ↦ told_words (table_of types told) (deep (table_of types told) formed) s untold t.fields.items have r a.0 ∙ ap (λ w. Some w) (sym summed) ∙ ap (λ o. option_map (λ y. y.words) o) a.1
+        | inr a ↦ other_words (table_of types told) (deep (table_of types told) formed) s untold t.fields.items have r (differ (r.0 == s) refl a.0) ∙ counted.structs r x a.1
       ]
     where
       differ : (b : Bool) → (r.0 == s) ≡ b → (r.0 ≡ s → ⊥) → (r.0 == s) ≡ false
@@ -96,9 +97,9 @@ module _ (types : List ValueType) (told : List (Option Told)) (words kept : List
       let U = with_fields T s t.fields.items in
       let is : table_of types (slice_set told s (Some t)) ≡ U = ap (λ ss. record { types = types; structs = ss }) (map_set fields_in told s (Some t)) in
       record {
-        formed = subst IsFormed (sym is) (formed_told T formed s untold t.fields.items have (subst IsInLimits summed limits) (λ i u h. none_at (is_too_large U) types i u none h));
+        formed = subst IsFormed (sym is) (formed_told T (deep T formed) s untold t.fields.items have formed (subst IsInLimits summed limits) (λ i u h. none_at (is_too_large U) types i u none h));
         counted = subst (λ V. IsCounted V kept (slice_set told s (Some t))) (sym is) (record { types = all; structs = struct_after });
-        trees = subst (KeepsTrees T) (sym is) (telling_keeps T formed s untold t.fields.items have);
+        trees = subst (KeepsTrees T) (sym is) (telling_keeps T (deep T formed) s untold t.fields.items have);
         is = is;
       }
 

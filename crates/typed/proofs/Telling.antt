@@ -17,7 +17,7 @@ use Rattle.typed.specs.Trees.{part_by, more_by, parts_by, tree_within, tree_of, 
 use Rattle.typed.specs.Formed.{IsFormed, TreesAreMade, KeepsTrees, HasWords, tree_at, words_at, sum_of, is_too_large}
 use Rattle.typed.proofs.Limits.{not_over}
 use Rattle.typed.proofs.Growing.{Grows, parts_grow, within_grows, keeps}
-use Rattle.typed.proofs.Nested.{IsDeep, base_of, depth_is, part_same, behind_placed, deep, fixed, made, made_by, told_tree}
+use Rattle.typed.proofs.Nested.{IsDeep, base_of, depth_is, part_same, behind_placed, fixed, made_by, told_tree_by}
 use Rattle.typed.proofs.Counted.{array_words_by, untold_words_by}
 use Rattle.typed.proofs.Entered.{more_is, words_there}
 
@@ -28,7 +28,7 @@ one_more_told (Some f ∷ structs) zero fields p = absurd cc p
 one_more_told (None ∷ structs) (suc s) fields p = one_more_told structs s fields p
 one_more_told (Some f ∷ structs) (suc s) fields p = ap suc (one_more_told structs s fields p)
 
-some_is : {A B : Type 0} (f : A → B) (o : Option A) → IsSome (option_map f o) → (x : A) × (o ≡ Some x)
+pub some_is : {A B : Type 0} (f : A → B) (o : Option A) → IsSome (option_map f o) → (x : A) × (o ≡ Some x)
 some_is f None p = absurd cc p
 some_is f (Some x) p = (x, refl)
 
@@ -56,17 +56,17 @@ sum_is T (e ∷ es) xs p =
 abbrev pub IsUntold : Table → ℕ → Type 0
 IsUntold T s = slice_get T.structs s ≡ Some None
 
-module _ (T : Table) (formed : IsFormed T) (s : ℕ) (untold : IsUntold T s) (fields : List TypeId) (have : All (HasWords T) fields) where
+module _ (T : Table) (nests : IsDeep T) (s : ℕ) (untold : IsUntold T s) (fields : List TypeId) (have : All (HasWords T) fields) where
   abbrev after : Table
   after = with_fields T s fields
 
   told_none : fields_of T s ≡ None
   told_none = get_or_from_slice_get T.structs s None None untold
 
-  told_now : fields_of after s ≡ Some fields
+  pub told_now : fields_of after s ≡ Some fields
   told_now = get_or-set_same T.structs s (Some fields) None (slice_get_within T.structs s None untold)
 
-  others_stay : (r : ℕ) → (r == s) ≡ false → fields_of after r ≡ fields_of T r
+  pub others_stay : (r : ℕ) → (r == s) ≡ false → fields_of after r ≡ fields_of T r
   others_stay r ne = get_or-set_other T.structs s r (Some fields) None (eqb-false r s ne)
 
   pub telling_grows : Grows T after
@@ -96,7 +96,7 @@ module _ (T : Table) (formed : IsFormed T) (s : ℕ) (untold : IsUntold T s) (fi
       by : (n : ℕ) → base_of T + length T.types ≡ n → i < length T.types → tree_within T n u ≡ tree_within T (depth_of T) u
       by zero e l = absurd (omega arith)
       by (suc m) e l =
-          fixed T (deep T formed) i m least u (behind_placed T i i u (formed.placed i u h) (omega arith)) (omega arith) (omega arith)
+          fixed T nests i m least u (behind_placed T i i u (nests.placed i u h) (omega arith)) (omega arith) (omega arith)
           ∙ ap (λ k. tree_within T k u) (sym (depth_is T))
 
   parts : PartTypes
@@ -124,13 +124,13 @@ module _ (T : Table) (formed : IsFormed T) (s : ℕ) (untold : IsUntold T s) (fi
       by : (b : Bool) → (r.0 == s) ≡ b → (x : TypeTree) × (tree_within after (base_of after) (Struct r) ≡ Some x)
       by true e = (struct_of parts, told_within r (eqb-true r.0 s e))
       by false e =
-          let x = formed.nested r fs (sym (others_stay r.0 e) ∙ p) in
+          let x = nests.nested r fs (sym (others_stay r.0 e) ∙ p) in
           let d = base_is in
           let k = depth_is T in
           (x.0, within_grows T after telling_grows (base_of T) (base_of after) (omega arith) (Struct r) x.0 x.1)
 
   pub deep_now : IsDeep after
-  deep_now = record { placed = formed.placed; nested = nested_now }
+  deep_now = record { placed = nests.placed; nested = nested_now }
 
   pub made_now : TreesAreMade after
   made_now = made_by after deep_now
@@ -153,10 +153,10 @@ module _ (T : Table) (formed : IsFormed T) (s : ℕ) (untold : IsUntold T s) (fi
   other_words r ne = by (fields_of T r.0) refl
     where
       by : (o : Option (List TypeId)) → fields_of T r.0 ≡ o → words_of after (Struct r) ≡ words_of T (Struct r)
-      by None e = untold_words_by after made_now r (others_stay r.0 ne ∙ e) ∙ sym (untold_words_by T (made T formed) r e)
-      by (Some fs) e = let x = told_tree T formed r fs e in ap (option_map width) (telling_keeps (Struct r) x.0 x.1 ∙ sym x.1)
+      by None e = untold_words_by after made_now r (others_stay r.0 ne ∙ e) ∙ sym (untold_words_by T (made_by T nests) r e)
+      by (Some fs) e = let x = told_tree_by T nests r fs e in ap (option_map width) (telling_keeps (Struct r) x.0 x.1 ∙ sym x.1)
 
-  module _ (limits : IsInLimits (sum_of T fields)) where
+  module _ (formed : IsFormed T) (limits : IsInLimits (sum_of T fields)) where
     structs_now : (r : StructId) (w : ℕ) → words_of after (Struct r) ≡ Some w → IsInLimits w
     structs_now r w p = by (r.0 == s) refl
       where

@@ -1,5 +1,5 @@
 -- What holds of each table, and what is refused.
-use Rattle.std.specs.Prelude.{◌≡◌, ℕ, ◌*◌, ◌^◌, ◌<◌, ◌≤◌, suc, Bool, if◌then◌else◌, List, length, sum_by, Option, None, Some, IsSome}
+use Rattle.std.specs.Prelude.{◌≡◌, ℕ, ◌*◌, ◌^◌, ◌<◌, ◌≤◌, suc, Bool, if◌then◌else◌, List, length, get_or, sum_by, Option, None, Some, IsSome}
 use Rattle.std.specs.List.{list_any}
 use Rattle.std.specs.Option.{unwrap_or, option_map, option_or}
 use Rattle.typed_syntax.specs.Types.{TypeTree, width}
@@ -40,6 +40,10 @@ TreesAreMade T = (t : ValueType) → tree_of T t ≡ tree_by T (tree_of T) t
 -- types that have a tree keep it
 abbrev pub KeepsTrees : Table → Table → Type 0
 KeepsTrees T U = (t : ValueType) (x : TypeTree) → tree_of T t ≡ Some x → tree_of U t ≡ Some x
+
+-- these are the words of each struct that's told
+abbrev pub AreStructWords : Table → List (Option ℕ) → Type 0
+AreStructWords T words = (s : StructId) (fields : List TypeId) → fields_of T s.0 ≡ Some fields → get_or words s.0 None ≡ words_of T (Struct s)
 
 -- ---- what is refused
 

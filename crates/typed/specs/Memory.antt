@@ -16,10 +16,14 @@ fields_in t = option_map (λ s. s.fields.items) t
 abbrev pub table_of : List ValueType → List (Option Told) → Table
 table_of types structs = record { types = types; structs = map fields_in structs }
 
--- the words that are kept beside the types and the structs are theirs
+-- the words that are kept beside the structs are theirs
+abbrev pub ToldWords : Table → List (Option Told) → Type 0
+ToldWords T told = (s : StructId) (t : Told) → slice_get told s.0 ≡ Some (Some t) → words_of T (Struct s) ≡ Some t.words
+
+-- and so are those beside the types
 pub record IsCounted (T : Table) (words : List (Option ℕ)) (told : List (Option Told)) : Type 0 where
   pub types : words ≡ map (words_of T) T.types
-  pub structs : (s : StructId) (t : Told) → slice_get told s.0 ≡ Some (Some t) → words_of T (Struct s) ≡ Some t.words
+  pub structs : ToldWords T told
 
 -- ---- words by those that are kept
 

@@ -1,5 +1,7 @@
 -- A table of types as contracts see it.
 use Rattle.std.specs.Prelude.{◌≡◌, ℕ, suc, if◌then◌else◌, List, [], ◌∷◌, ◌++◌, map, get_or, slice_get, slice_set, position, is_some, Option, None, Some}
+use Rattle.std.specs.Option.{option_map}
+use Rattle.std.specs.Global.{Vec}
 use Rattle.base.specs.declared.ids.TypeId.{TypeId}
 use Rattle.base.specs.declared.value_type.ValueType.{ValueType}
 use Rattle.base.specs.declared.value_type.ValueType.TheVariants.{Int}
@@ -31,6 +33,14 @@ with_type T t = if is_some (number_of T t) then T else record T { types = T.type
 -- a table with a struct told
 abbrev pub with_fields : Table → ℕ → List TypeId → Table
 with_fields T s fields = record T { structs = slice_set T.structs s (Some fields) }
+
+-- a table in which these structs are told, and no others
+abbrev pub with_all : Table → List (Option (List TypeId)) → Table
+with_all T structs = record T { structs = structs }
+
+-- the fields of structs, each as a plain list
+abbrev pub lists_of : List (Option (Vec TypeId)) → List (Option (List TypeId))
+lists_of fields = map (λ f. option_map (λ l. l.items) f) fields
 
 -- how many structs are told
 abbrev pub told : List (Option (List TypeId)) → ℕ

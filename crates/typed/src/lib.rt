@@ -5,9 +5,10 @@
 //! their numbers are (Go specification, "Type identity").
 //!
 //! Structs may hold each other in any order of the text, so a table is made with a number of structs, none of which is told yet. A struct is
-//! told once the types of its fields have words; then it has as many as these together. The words of each type are kept beside it:
-//! structs nest, and to count the words of a type part by part could take exponential time. No type of more than 65,535 words, or of none,
-//! stands in the table.
+//! told once the types of its fields have words; then it has as many as these together. Where the words of all structs are known, they are
+//! told at once instead, so that the numbers of types depend on the text alone. The words of each type are kept beside it: structs nest,
+//! and to count the words of a type part by part could take exponential time. No type of more than 65,535 words, or of none, stands in the
+//! table.
 //!
 //! `specs/Tables` says what a contract sees of a table: the list of its types, and the fields of the structs that are told.
 //! `specs/Trees` gives each type its tree (`value_trees`), from which its words and the offsets of its parts follow: a

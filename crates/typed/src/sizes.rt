@@ -1,14 +1,16 @@
 //! The words of types, by those that are kept of all types and structs.
 
-ghost use Rattle.std.specs.Prelude.{◌≡◌, ◌≤◌, ℕ, ◌*◌, sum_by, None, Some, true, false, MatchResult};
+ghost use Rattle.std.specs.Prelude.{◌≡◌, ◌≤◌, ℕ, ◌*◌, sum_by, None, Some, true, false, IfOk, MatchResult};
 ghost use Rattle.std.specs.Option.{unwrap_or};
 ghost use Rattle.typed.specs.declared.fault.TableFault.TheVariants.{TooLarge as TypeTooLarge};
 ghost use Rattle.typed.specs.Words.{within_limit, refusal_by, known, is_over};
-ghost use Rattle.typed.specs.Memory.{struct_words, words_by, least_by, told_by};
+ghost use Rattle.typed.specs.Formed.{IsFormed};
+ghost use Rattle.typed.specs.Memory.{table_of, IsCounted, ToldWords, struct_words, words_by, least_by, told_by};
 
 use crate::fault::TableFault;
 use crate::told::Told;
-use base::{StructId, TypeId, ValueType};
+use base::{NoMemory, StructId, TypeId, ValueType};
+use std::alloc::Global;
 
 /// The most words that a type may have.
 pub const MOST_WORDS: u32 = 65_535;
@@ -120,4 +122,22 @@ pub fn words_when_told(
             _ => Ok(None),
         },
     }
+}
+
+/// The words of all types, by those that are kept of the structs. An array stands after its elements' type, so that one pass is enough.
+pub fn words_of_all(
+    alloc: Global,
+    types: &[ValueType],
+    structs: &[Option<Told>],
+) -> Result<Vec<Option<u32>>, NoMemory>
+    requires formed { IsFormed (table_of types.now structs.now) }
+    requires words { ToldWords (table_of types.now structs.now) structs.now }
+    ensures { IfOk result (λ all. IsCounted (table_of types.now structs.now) all.items structs.now) }
+{
+    let mut all = Vec::with_capacity(alloc, types.len())?;
+    for value_type in types {
+        let words = words_by(&all, structs, *value_type);
+        all.push(words)?;
+    }
+    Ok(all)
 }

@@ -6,14 +6,14 @@ ghost use Rattle.std.specs.Option.{option_map, option_copied, unwrap_or};
 ghost use Rattle.typed_syntax.specs.Types.{ints, bools};
 ghost use Rattle.base.specs.declared.value_type.ValueType.TheVariants.{Int, Bool as Truth, Struct};
 ghost use Rattle.typed.specs.declared.fault.TableFault.TheVariants.{NoMemory as OutOfMemory, TooLarge as TypeTooLarge};
-ghost use Rattle.typed.specs.Tables.{Holds, finished, type_at, fields_of, number_of, with_type, with_fields};
+ghost use Rattle.typed.specs.Tables.{Holds, finished, type_at, fields_of, number_of, with_type, with_fields, with_all, lists_of};
 ghost use Rattle.typed.specs.Trees.{trees, tree_of, words_of, offset_in};
 ghost use Rattle.typed.specs.Words.{IsInLimits, allowed};
-ghost use Rattle.typed.specs.Formed.{IsFormed, TreesAreMade, KeepsTrees, Stands, HasWords, words_at, refusal, sum_of, is_too_large, struct_refusal};
+ghost use Rattle.typed.specs.Formed.{IsFormed, TreesAreMade, KeepsTrees, Stands, HasWords, words_at, refusal, sum_of, is_too_large, struct_refusal, AreStructWords};
 
 use crate::fault::TableFault;
-use crate::sizes::{entry_words, sum_words, words_by, words_when_told};
-use crate::told::{Told, into_fields};
+use crate::sizes::{entry_words, sum_words, words_by, words_of_all, words_when_told};
+use crate::told::{Told, into_fields, kept_structs};
 use base::{NoMemory, StructId, TypeId, ValueType};
 use indexmap::IndexSet;
 use std::alloc::Global;
@@ -187,6 +187,12 @@ impl TypeTable {
             Some(words) => words,
         };
         let told = Told { fields, words };
+        // Where the struct has no number yet, no type is made of it, and all words stay: looking at each would cost the square of the
+        // structs.
+        if self.find(ValueType::Struct(id)).is_none() {
+            self.structs[id.0 as usize] = Some(told);
+            return Ok(());
+        }
         self.words = self.words_with(id, &told)?;
         self.structs[id.0 as usize] = Some(told);
         Ok(())
@@ -210,6 +216,27 @@ impl TypeTable {
             all.push(words)?;
         }
         Ok(all)
+    }
+
+    /// Tells the types of the fields of all structs that have some at once, where `words` has the words of each of these.
+    pub fn tell_all(
+        self,
+        fields: Vec<Option<Vec<TypeId>>>,
+        words: &[Option<u32>],
+    ) -> Result<TypeTable, NoMemory>
+        requires formed { IsFormed (with_all self (lists_of fields.items)) }
+        requires words { AreStructWords (with_all self (lists_of fields.items)) words.now }
+        ensures told { IfOk result (λ t. t ≡ with_all self (lists_of fields.items)) }
+        ensures formed { IfOk result IsFormed }
+    {
+        let structs = kept_structs(self.alloc, fields, words)?;
+        let words = words_of_all(self.alloc, self.types.as_slice(), &structs)?;
+        Ok(TypeTable {
+            types: self.types,
+            words,
+            structs,
+            alloc: self.alloc,
+        })
     }
 
     /// The types as plain data.
