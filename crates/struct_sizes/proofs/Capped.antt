@@ -7,9 +7,9 @@ use Rattle.struct_sizes.specs.declared.forms.Prefix.{Prefix}
 use Rattle.struct_sizes.specs.declared.forms.Prefix.TheVariants.{Pointer, Slice, Array}
 use Rattle.struct_sizes.specs.declared.forms.Base.{Base}
 use Rattle.struct_sizes.specs.declared.forms.Base.TheVariants.{Int, Bool as Truth, Struct}
-use Rattle.struct_sizes.specs.declared.forms.PrefixedType.{PrefixedType}
 use Rattle.struct_sizes.specs.declared.verdicts.SizeFault.{SizeFault}
 use Rattle.struct_sizes.specs.declared.verdicts.SizeFault.TheVariants.{ZeroSize, TooLarge}
+use Rattle.struct_sizes.specs.Structs.{Prefixed, Fields}
 use Rattle.struct_sizes.specs.Words.{prefix_words, prefixed_words, base_words, type_words, field_words, added, sum_words}
 use Rattle.struct_sizes.specs.Faults.{size_fault, known_fault, prefix_fault, outer_fault, FailsAt}
 use Rattle.struct_sizes.specs.Kept.{capped, kept, Agree, AgreeAll}
@@ -131,14 +131,14 @@ module _ (table exact : List (Option ℕ)) (same : AgreeAll table exact) where
   agree_base Truth = refl
   agree_base (Struct id) = agree_at id.0
 
-  pub agree_type : (t : PrefixedType) → Agree (type_words table t) (type_words exact t)
-  agree_type t = agree_prefixed t.prefixes.items (base_words table t.base) (base_words exact t.base) (agree_base t.base)
+  pub agree_type : (t : Prefixed) → Agree (type_words table t) (type_words exact t)
+  agree_type t = agree_prefixed t.prefixes (base_words table t.base) (base_words exact t.base) (agree_base t.base)
 
-  pub agree_field : (f : Option PrefixedType) → Agree (field_words table f) (field_words exact f)
+  pub agree_field : (f : Option Prefixed) → Agree (field_words table f) (field_words exact f)
   agree_field None = refl
   agree_field (Some t) = agree_type t
 
-  pub agree_sum : (fs : List (Option PrefixedType)) → Agree (sum_words table fs) (sum_words exact fs)
+  pub agree_sum : (fs : Fields) → Agree (sum_words table fs) (sum_words exact fs)
   agree_sum [] = refl
   agree_sum (f ∷ fs) = agree_added (field_words table f) (field_words exact f) (sum_words table fs) (sum_words exact fs) (agree_field f) (agree_sum fs)
 
@@ -159,8 +159,8 @@ pub outer_agree : (ps : List Prefix) (a b : Option ℕ) → Agree a b → outer_
 outer_agree [] a b e = refl
 outer_agree (p ∷ ps) a b e = prefix_agree p (prefixed_words (p ∷ ps) a) (prefixed_words (p ∷ ps) b) (agree_prefixed (p ∷ ps) a b e)
 
-pub fails_agree : (table exact : List (Option ℕ)) → AgreeAll table exact → (t : PrefixedType) (level : ℕ) (fault : SizeFault) → FailsAt table t level fault → FailsAt exact t level fault
-fails_agree table exact same t level fault h = sym (outer_agree (drop level t.prefixes.items) (base_words table t.base) (base_words exact t.base) (agree_base table exact same t.base)) ∙ h
+pub fails_agree : (table exact : List (Option ℕ)) → AgreeAll table exact → (t : Prefixed) (level : ℕ) (fault : SizeFault) → FailsAt table t level fault → FailsAt exact t level fault
+fails_agree table exact same t level fault h = sym (outer_agree (drop level t.prefixes) (base_words table t.base) (base_words exact t.base) (agree_base table exact same t.base)) ∙ h
 
 -- words within the limit are exact
 pub exact_from : (a : ℕ) (b : Option ℕ) → Agree (Some a) b → size_fault a ≡ None → b ≡ Some a

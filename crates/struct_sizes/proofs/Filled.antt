@@ -5,8 +5,7 @@ use Rattle.std.specs.Option.{unwrap_or}
 use Rattle.std.proofs.lemmas.Bool.{cases_eq, cases_lt}
 use Rattle.std.proofs.lemmas.List.{length-replicate}
 use Rattle.std.proofs.lemmas.Option.{get_or_from_slice_get, unwrap_or-slice_get}
-use Rattle.struct_sizes.specs.declared.forms.DeclaredStruct.{DeclaredStruct}
-use Rattle.struct_sizes.specs.Structs.{holds}
+use Rattle.struct_sizes.specs.Structs.{Fields, holds}
 use Rattle.struct_sizes.specs.Words.{sum_words, IsTable}
 use Rattle.struct_sizes.specs.Filling.{fields_in, filled_at, filled, filled_all}
 use Rattle.components.specs.Graph.{Among, row, Leads, at_once}
@@ -26,14 +25,14 @@ at_replicate x (suc n) (suc k) l = at_replicate x n k (omega (arith, l))
 pub get_other : (table : List (Option ℕ)) (k j : ℕ) (w : Option ℕ) → (j ≡ k → ⊥) → get_or (slice_set table k w) j None ≡ get_or table j None
 get_other table k j w other = sym (unwrap_or-slice_get (slice_set table k w) j None) ∙ ap (λ (o : Option (Option ℕ)). unwrap_or o None) (set_other table k j w other) ∙ unwrap_or-slice_get table j None
 
-module _ (ss : List DeclaredStruct) (cycles : List Bool) (comps : List (List ℕ)) (a : AreComponents (holds ss) comps) (o : AreOnCycles (holds ss) cycles) where
+module _ (ss : List Fields) (cycles : List Bool) (comps : List (List ℕ)) (a : AreComponents (holds ss) comps) (o : AreOnCycles (holds ss) cycles) where
   -- a node stands before a place of a component
   abbrev Before : (c i k : ℕ) → Type 0
   Before c i k = (d : ℕ) × (m : ℕ) × StandsAt comps d m k × ((d < c) ⊎ ((d ≡ c) × (m < i)))
 
   record Filled (table : List (Option ℕ)) (c i : ℕ) : Type 0 where
     size : length table ≡ length ss
-    done : (k : ℕ) (s : DeclaredStruct) → Before c i k → slice_get ss k ≡ Some s → (Leads (holds ss) k k → ⊥) → slice_get table k ≡ Some (sum_words table s.fields.items)
+    done : (k : ℕ) (s : Fields) → Before c i k → slice_get ss k ≡ Some s → (Leads (holds ss) k k → ⊥) → slice_get table k ≡ Some (sum_words table s)
     none_yet : (k : ℕ) → k < length ss → Leads (holds ss) k k ⊎ (Before c i k → ⊥) → slice_get table k ≡ Some None
 
   before_more : (c i k : ℕ) → Before c i k → Before c (i + 1) k
@@ -66,9 +65,9 @@ module _ (ss : List DeclaredStruct) (cycles : List Bool) (comps : List (List ℕ
       none_yet = λ j small why. f.none_yet j small (elim why [ inl way ↦ inl way | inr not_yet ↦ inr (λ before. not_yet (before_more c i j before)) ]);
     }
 
-    module _ (no_loop : Leads (holds ss) k k → ⊥) (s : DeclaredStruct) (at_s : slice_get ss k ≡ Some s) where
+    module _ (no_loop : Leads (holds ss) k k → ⊥) (s : Fields) (at_s : slice_get ss k ≡ Some s) where
       words : Option ℕ
-      words = sum_words table s.fields.items
+      words = sum_words table s
 
       next : List (Option ℕ)
       next = slice_set table k words
@@ -86,9 +85,9 @@ module _ (ss : List DeclaredStruct) (cycles : List Bool) (comps : List (List ℕ
               let mutual_ways = (a.together j k (a.only d j (m, there)) (a.only c k (i, at))).0 (c, subst (λ (x : ℕ). Stands comps x j) is (m, there), (i, at)) in
               free (round (holds ss) j k among mutual_ways.1)
 
-      same_as_before : (j : ℕ) (r : DeclaredStruct) → Before c (i + 1) j → slice_get ss j ≡ Some r → (Leads (holds ss) j j → ⊥) → sum_words table r.fields.items ≡ sum_words next r.fields.items
+      same_as_before : (j : ℕ) (r : Fields) → Before c (i + 1) j → slice_get ss j ≡ Some r → (Leads (holds ss) j j → ⊥) → sum_words table r ≡ sum_words next r
       unfolding next
-      same_as_before j r before at_r free = same_sums table next r.fields.items (λ x h. sym (get_other table k x words (λ e. no_edge j before free (subst (λ (y : ℕ). Among y (row (holds ss) j)) e (subst (λ (l : List ℕ). Among x l) (sym (held_row ss j r at_r)) h)))))
+      same_as_before j r before at_r free = same_sums table next r (λ x h. sym (get_other table k x words (λ e. no_edge j before free (subst (λ (y : ℕ). Among y (row (holds ss) j)) e (subst (λ (l : List ℕ). Among x l) (sym (held_row ss j r at_r)) h)))))
 
       entered : Filled next c (i + 1)
       unfolding next words
@@ -99,7 +98,7 @@ module _ (ss : List DeclaredStruct) (cycles : List Bool) (comps : List (List ℕ
               let was = at_there table k (let l = in_range in let z = f.size in omega (arith, l, z)) in
               let here : slice_get next k ≡ Some words = set_same table k was.0 words was.1 in
               let is : s ≡ r = at_one ss k s r at_s (subst (λ (x : ℕ). slice_get ss x ≡ Some r) e at_r) in
-              subst (λ (x : ℕ). slice_get next x ≡ Some (sum_words next r.fields.items)) (sym e) (here ∙ ap (λ (q : DeclaredStruct). Some (sum_words table q.fields.items)) is ∙ ap Some (same_as_before j r before at_r free))
+              subst (λ (x : ℕ). slice_get next x ≡ Some (sum_words next r)) (sym e) (here ∙ ap (λ (q : Fields). Some (sum_words table q)) is ∙ ap Some (same_as_before j r before at_r free))
               )
           | inr other ↦ (elim (before_cases c i k j at before) [
             | inl old ↦ set_other table k j words other ∙ f.done j r old at_r free ∙ ap Some (same_as_before j r before at_r free)
@@ -123,14 +122,14 @@ module _ (ss : List DeclaredStruct) (cycles : List Bool) (comps : List (List ℕ
         let mark = at_there cycles k (let z = o.size in let e = holds_length ss in omega (arith, l, z, e)) in
         by mark.0 mark.1 there.0 there.1
       where
-        entered_as : (no_loop : Leads (holds ss) k k → ⊥) (s : DeclaredStruct) → slice_get ss k ≡ Some s → Filled (slice_set table k (sum_words table s.fields.items)) c (i + 1)
+        entered_as : (no_loop : Leads (holds ss) k k → ⊥) (s : Fields) → slice_get ss k ≡ Some s → Filled (slice_set table k (sum_words table s)) c (i + 1)
         entered_as no_loop s at_s = entered no_loop s at_s
 
-        by : (b : Bool) → slice_get cycles k ≡ Some b → (s : DeclaredStruct) → slice_get ss k ≡ Some s → Filled (filled_at ss cycles table k) c (i + 1)
+        by : (b : Bool) → slice_get cycles k ≡ Some b → (s : Fields) → slice_get ss k ≡ Some s → Filled (filled_at ss cycles table k) c (i + 1)
         by true marked s at_s = subst (λ (b : Bool). Filled (if b then table else slice_set table k (sum_words table (fields_in (slice_get ss k)))) c (i + 1)) (sym (get_or_from_slice_get cycles k true false marked)) (passed ((o.is k true marked).0 refl))
         by false marked s at_s =
             subst (λ (b : Bool). Filled (if b then table else slice_set table k (sum_words table (fields_in (slice_get ss k)))) c (i + 1)) (sym (get_or_from_slice_get cycles k false false marked))
-            (subst (λ (x : Option DeclaredStruct). Filled (slice_set table k (sum_words table (fields_in x))) c (i + 1)) (sym at_s)
+            (subst (λ (x : Option Fields). Filled (slice_set table k (sum_words table (fields_in x))) c (i + 1)) (sym at_s)
             (entered_as (λ way. (let bad : false ≡ true = (o.is k false marked).1 way in cc)) s at_s))
 
   -- the nodes of a component from its i-th one on

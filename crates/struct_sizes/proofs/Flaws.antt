@@ -4,11 +4,9 @@ use Rattle.std.specs.Prelude.{Bool, slice_get}
 use Rattle.std.specs.List.{flat_map}
 use Rattle.std.proofs.lemmas.Bool.{cases_lt}
 use Rattle.std.proofs.lemmas.Option.{get_or_from_slice_get, slice_get_past}
-use Rattle.struct_sizes.specs.declared.forms.PrefixedType.{PrefixedType}
-use Rattle.struct_sizes.specs.declared.forms.DeclaredStruct.{DeclaredStruct}
 use Rattle.struct_sizes.specs.declared.faults.Flaw.{Flaw}
 use Rattle.struct_sizes.specs.declared.faults.Flaw.TheVariants.{Fine, InForm, OnCycle, InSize}
-use Rattle.struct_sizes.specs.Structs.{holds, held_in}
+use Rattle.struct_sizes.specs.Structs.{Prefixed, Fields, holds, held_in}
 use Rattle.struct_sizes.specs.Words.{sum_words, IsTable}
 use Rattle.struct_sizes.specs.Faults.{known_fault, FieldFails, FieldsFail, FormFails, ByForm, BySize, AtFault}
 use Rattle.struct_sizes.specs.Verdicts.{IsRefused}
@@ -22,12 +20,12 @@ use Rattle.struct_sizes.proofs.Ways.{holds_of_all}
 use Rattle.struct_sizes.proofs.Sums.{held_row, mentioned_row, holds_length, all_held_mentioned, none_sums}
 
 -- a number that is no struct's is at fault
-pub past_fault : (ss : List DeclaredStruct) (table : List (Option ℕ)) (k : ℕ) → length ss ≤ k → ByForm ss table k
-past_fault ss table k le = inl (subst (λ (s : Option DeclaredStruct). FormFails table s) (sym (slice_get_past ss k le)) tt)
+pub past_fault : (ss : List Fields) (table : List (Option ℕ)) (k : ℕ) → length ss ≤ k → ByForm ss table k
+past_fault ss table k le = inl (subst (λ (s : Option Fields). FormFails table s) (sym (slice_get_past ss k le)) tt)
 
 -- ---- a struct of no words
 
-module _ (ss : List DeclaredStruct) (cycles : List Bool) (table : List (Option ℕ)) (o : AreOnCycles (holds ss) cycles) (w : IsTable ss table) where
+module _ (ss : List Fields) (cycles : List Bool) (table : List (Option ℕ)) (o : AreOnCycles (holds ss) cycles) (w : IsTable ss table) where
   abbrev IfUnknown : ℕ → Type 0
   IfUnknown k = get_or table k None ≡ None → IsRefused ss table k
 
@@ -40,20 +38,20 @@ module _ (ss : List DeclaredStruct) (cycles : List Bool) (table : List (Option �
       mark : (b : Bool) × (slice_get cycles k ≡ Some b)
       mark = at_there cycles k (let z = o.size in omega (arith, small, z))
 
-      held : (s : DeclaredStruct) → slice_get ss k ≡ Some s → (Leads (holds ss) k k → ⊥) → (j : ℕ) → Among j (flat_map held_in s.fields.items) → get_or table j None ≡ None → (j < length ss) ⊎ (length ss ≤ j) → IsRefused ss table j
+      held : (s : Fields) → slice_get ss k ≡ Some s → (Leads (holds ss) k k → ⊥) → (j : ℕ) → Among j (flat_map held_in s) → get_or table j None ≡ None → (j < length ss) ⊎ (length ss ≤ j) → IsRefused ss table j
       held s at free j h none (inl l) = below free j (subst (λ (ks : List ℕ). Among j ks) (sym (held_row ss k s at)) h) (subst (λ (n : ℕ). j < n) (sym (holds_length ss)) l) none
       held s at free j h none (inr l) = (j, itself, inl (past_fault ss table j l))
 
       free_refused : (Leads (holds ss) k k → ⊥) → IsRefused ss table k
       free_refused free =
           let there = at_there ss k here in
-          let s : DeclaredStruct = there.0 in
-          let sum : sum_words table s.fields.items ≡ None = sym (get_or_from_slice_get table k (sum_words table s.fields.items) None (w.sums k s there.1 free)) ∙ none in
-          elim (none_sums table s.fields.items sum) [
-            | inl fails ↦ (k, itself, inl (inl (subst (λ (x : Option DeclaredStruct). FormFails table x) (sym there.1) fails)))
+          let s : Fields = there.0 in
+          let sum : sum_words table s ≡ None = sym (get_or_from_slice_get table k (sum_words table s) None (w.sums k s there.1 free)) ∙ none in
+          elim (none_sums table s sum) [
+            | inl fails ↦ (k, itself, inl (inl (subst (λ (x : Option Fields). FormFails table x) (sym there.1) fails)))
             | inr (j, h, none_j) ↦ (
                 let far = held s there.1 free j h none_j (cases_lt j (length ss)) in
-                (far.0, onward (subst (λ (ks : List ℕ). Among j ks) (sym (mentioned_row ss k s there.1)) (all_held_mentioned j s.fields.items h)) far.1, far.2)
+                (far.0, onward (subst (λ (ks : List ℕ). Among j ks) (sym (mentioned_row ss k s there.1)) (all_held_mentioned j s h)) far.1, far.2)
                 )
           ]
 
@@ -66,23 +64,23 @@ module _ (ss : List DeclaredStruct) (cycles : List Bool) (table : List (Option �
 
 -- ---- flaws
 
-abbrev pub Says : List DeclaredStruct → List (Option ℕ) → ℕ → Flaw → Type 0
+abbrev pub Says : List Fields → List (Option ℕ) → ℕ → Flaw → Type 0
 Says ss table k Fine = (ByForm ss table k → ⊥) × (known_fault (get_or table k None) ≡ None)
 Says ss table k InForm = ByForm ss table k × (Leads (holds ss) k k → ⊥)
 Says ss table k OnCycle = Leads (holds ss) k k
 Says ss table k (InSize fault) = BySize ss table k fault
 
-field_fails_agree : (table exact : List (Option ℕ)) → AgreeAll table exact → (f : Option PrefixedType) → FieldFails table f → FieldFails exact f
+field_fails_agree : (table exact : List (Option ℕ)) → AgreeAll table exact → (f : Option Prefixed) → FieldFails table f → FieldFails exact f
 field_fails_agree table exact same None h = tt
 field_fails_agree table exact same (Some t) h = (h.0, h.1, fails_agree table exact same t h.0 h.1 h.2)
 
-pub fields_fail_agree : (table exact : List (Option ℕ)) → AgreeAll table exact → (fs : List (Option PrefixedType)) → FieldsFail table fs → FieldsFail exact fs
+pub fields_fail_agree : (table exact : List (Option ℕ)) → AgreeAll table exact → (fs : Fields) → FieldsFail table fs → FieldsFail exact fs
 fields_fail_agree table exact same [] h = h
 fields_fail_agree table exact same (f ∷ fs) (inl h) = inl (field_fails_agree table exact same f h)
 fields_fail_agree table exact same (f ∷ fs) (inr h) = inr (fields_fail_agree table exact same fs h)
 
-module _ (ss : List DeclaredStruct) (cycles : List Bool) (table exact : List (Option ℕ)) (flaws : List Flaw) (o : AreOnCycles (holds ss) cycles) (same : AgreeAll table exact) (many : length flaws ≡ length ss) (are : AreFlaws table ss cycles flaws) where
-  module _ (k : ℕ) (s : DeclaredStruct) (at : slice_get ss k ≡ Some s) where
+module _ (ss : List Fields) (cycles : List Bool) (table exact : List (Option ℕ)) (flaws : List Flaw) (o : AreOnCycles (holds ss) cycles) (same : AgreeAll table exact) (many : length flaws ≡ length ss) (are : AreFlaws table ss cycles flaws) where
+  module _ (k : ℕ) (s : Fields) (at : slice_get ss k ≡ Some s) where
     loops : get_or cycles k false ≡ true → Leads (holds ss) k k
     loops e = by mark.0 mark.1
       where
@@ -103,16 +101,16 @@ module _ (ss : List DeclaredStruct) (cycles : List Bool) (table exact : List (Op
         by true at_k = let bad : true ≡ false = sym (get_or_from_slice_get cycles k true false at_k) ∙ e in cc
         by false at_k = let bad : false ≡ true = (o.is k false at_k).1 way in cc
 
-    right : get_or cycles k false ≡ false → (FieldsFail table s.fields.items → ⊥) → ByForm ss exact k → ⊥
+    right : get_or cycles k false ≡ false → (FieldsFail table s → ⊥) → ByForm ss exact k → ⊥
     right e free (inr way) = no_loop e way
-    right e free (inl fails) = free (fields_fail_agree exact table (sym same) s.fields.items (subst (λ (x : Option DeclaredStruct). FormFails exact x) at fails))
+    right e free (inl fails) = free (fields_fail_agree exact table (sym same) s (subst (λ (x : Option Fields). FormFails exact x) at fails))
 
     known : known_fault (get_or table k None) ≡ known_fault (get_or exact k None)
     known = agree_fault (get_or table k None) (get_or exact k None) (agree_at table exact same k)
 
-    says_of : (flaw : Flaw) → IsFlaw table s.fields.items (get_or cycles k false) (get_or table k None) flaw → Says ss exact k flaw
+    says_of : (flaw : Flaw) → IsFlaw table s (get_or cycles k false) (get_or table k None) flaw → Says ss exact k flaw
     says_of Fine h = (right h.0 h.1, sym known ∙ h.2)
-    says_of InForm h = (inl (subst (λ (x : Option DeclaredStruct). FormFails exact x) (sym at) (fields_fail_agree table exact same s.fields.items h.1)), no_loop h.0)
+    says_of InForm h = (inl (subst (λ (x : Option Fields). FormFails exact x) (sym at) (fields_fail_agree table exact same s h.1)), no_loop h.0)
     says_of OnCycle h = loops h
     says_of (InSize fault) h = (right h.0 h.1, sym known ∙ h.2)
 
@@ -122,7 +120,7 @@ module _ (ss : List DeclaredStruct) (cycles : List Bool) (table exact : List (Op
       let flaw = at_there flaws k (omega (arith, small, many)) in
       subst (λ (f : Flaw). Says ss exact k f) (sym (get_or_from_slice_get flaws k flaw.0 InForm flaw.1)) (says_of k s.0 s.1 flaw.0 (are k s.0 flaw.0 s.1 flaw.1))
 
-module _ (ss : List DeclaredStruct) (table : List (Option ℕ)) (k : ℕ) where
+module _ (ss : List Fields) (table : List (Option ℕ)) (k : ℕ) where
   pub form_true : (flaw : Flaw) → Says ss table k flaw → is_by_form flaw ≡ true → ByForm ss table k
   form_true Fine h e = absurd (let bad : false ≡ true = e in cc)
   form_true InForm h e = h.0

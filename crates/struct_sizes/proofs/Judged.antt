@@ -5,7 +5,6 @@ use Rattle.std.proofs.lemmas.Bool.{and_from, not_from_false, cases_lt, cases_Boo
 use Rattle.std.proofs.lemmas.List.{length-replicate}
 use Rattle.std.proofs.lemmas.Option.{get_or_from_slice_get, slice_get_past, slice_get-get_or, unwrap_or-slice_get, same_Some}
 use Rattle.std.specs.Option.{unwrap_or}
-use Rattle.struct_sizes.specs.declared.forms.DeclaredStruct.{DeclaredStruct}
 use Rattle.struct_sizes.specs.declared.faults.Flaw.{Flaw}
 use Rattle.struct_sizes.specs.declared.faults.Flaw.TheVariants.{Fine, InForm, OnCycle, InSize}
 use Rattle.struct_sizes.specs.declared.verdicts.SizeFault.{SizeFault}
@@ -14,7 +13,7 @@ use Rattle.struct_sizes.specs.declared.verdicts.StructFault.TheVariants.{HoldsIt
 use Rattle.struct_sizes.specs.declared.judging.Ruling.{Ruling}
 use Rattle.struct_sizes.specs.declared.verdicts.Verdict.{Verdict}
 use Rattle.struct_sizes.specs.declared.verdicts.Verdict.TheVariants.{Sized, Refused}
-use Rattle.struct_sizes.specs.Structs.{mentions}
+use Rattle.struct_sizes.specs.Structs.{Fields, mentions}
 use Rattle.struct_sizes.specs.Faults.{FormFails, known_fault, ByForm, BySize, AtFault}
 use Rattle.struct_sizes.specs.Verdicts.{IsRefused, IsTold, AreTold, IsSource, IsVerdict, Speaks, IsHeard}
 use Rattle.struct_sizes.specs.Kept.{kept, AgreeAll, Agree}
@@ -32,14 +31,14 @@ use Rattle.struct_sizes.proofs.Flaws.{past_fault, Says, form_true, form_false, f
 use Rattle.struct_sizes.proofs.Each.{each_length, each_at, each_other, one_of, of_one}
 
 -- what is known of the structs before their verdicts
-pub record IsBasis (ss : List DeclaredStruct) (table exact : List (Option ℕ)) (flaws : List Flaw) (comps : List (List ℕ)) : Type 0 where
+pub record IsBasis (ss : List Fields) (table exact : List (Option ℕ)) (flaws : List Flaw) (comps : List (List ℕ)) : Type 0 where
   pub components : AreComponents (mentions ss) comps
   pub same : AgreeAll table exact
   pub many : length exact ≡ length ss
   pub says : (k : ℕ) → k < length ss → Says ss exact k (flaw_at flaws k)
   pub unknown : (k : ℕ) → k < length ss → get_or exact k None ≡ None → IsRefused ss exact k
 
-module _ (ss : List DeclaredStruct) (table exact : List (Option ℕ)) (flaws : List Flaw) (comps : List (List ℕ)) (b : IsBasis ss table exact flaws comps) where
+module _ (ss : List Fields) (table exact : List (Option ℕ)) (flaws : List Flaw) (comps : List (List ℕ)) (b : IsBasis ss table exact flaws comps) where
   record AreJudged (verdicts : List Verdict) (c : ℕ) : Type 0 where
     size : length verdicts ≡ length ss
     done : (d k : ℕ) (v : Verdict) → d < c → Stands comps d k → slice_get verdicts k ≡ Some v → IsVerdict ss exact k v
@@ -293,7 +292,7 @@ module _ (ss : List DeclaredStruct) (table exact : List (Option ℕ)) (flaws : L
     -- ---- no refusal is silent
 
     heard_past : (l : ℕ) → length ss ≤ l → IsHeard ss exact l
-    heard_past l past = (l, itself, (λ i way fault. lone l i past way), inl (subst (λ (s : Option DeclaredStruct). FormFails exact s) (sym (slice_get_past ss l past)) tt))
+    heard_past l past = (l, itself, (λ i way fault. lone l i past way), inl (subst (λ (s : Option Fields). FormFails exact s) (sym (slice_get_past ss l past)) tt))
 
     heard_out : (k l : ℕ) → Among k nodes → Among l (row (mentions ss) k) → IsRefused ss exact l → (Among l nodes → ⊥) → IsHeard ss exact l
     heard_out k l h edge is apart = elim (cases_lt l (length ss)) [
@@ -391,6 +390,6 @@ module _ (ss : List DeclaredStruct) (table exact : List (Option ℕ)) (flaws : L
 
   pub all_heard : (k : ℕ) → IsRefused ss exact k → IsHeard ss exact k
   all_heard k is = elim (cases_lt k (length ss)) [
-    | inr past ↦ (k, itself, (λ l way fault. lone k l past way), inl (subst (λ (s : Option DeclaredStruct). FormFails exact s) (sym (slice_get_past ss k past)) tt))
+    | inr past ↦ (k, itself, (λ l way fault. lone k l past way), inl (subst (λ (s : Option Fields). FormFails exact s) (sym (slice_get_past ss k past)) tt))
     | inl small_k ↦ (let there = stands k small_k in whole.heard there.0 k (at_within comps there.0 there.1.1.0 there.1.1.1) there.1 is)
   ]

@@ -7,3 +7,4 @@ pub mod Each
 pub mod Judged
 pub mod Typed
 pub mod Steps
+pub mod Settled

@@ -4,10 +4,10 @@ use Rattle.std.specs.Prelude.{Bool, if◌then◌else◌, slice_get, slice_set, s
 use Rattle.std.proofs.lemmas.List.{take_more}
 use Rattle.std.proofs.Math.Seq.{drop-cons}
 use Rattle.std.proofs.lemmas.Option.{get_or_from_slice_get}
-use Rattle.struct_sizes.specs.declared.forms.DeclaredStruct.{DeclaredStruct}
 use Rattle.struct_sizes.specs.declared.faults.Flaw.{Flaw}
 use Rattle.struct_sizes.specs.declared.verdicts.Verdict.{Verdict}
 use Rattle.struct_sizes.specs.declared.forms.Prefix.{Prefix}
+use Rattle.struct_sizes.specs.Structs.{Fields}
 use Rattle.struct_sizes.specs.Words.{prefix_words, prefixed_words, sum_words}
 use Rattle.struct_sizes.specs.Faults.{prefix_fault, outer_fault}
 use Rattle.struct_sizes.specs.Kept.{kept, Agree, AgreeAll}
@@ -26,15 +26,15 @@ map_set (x ∷ xs) (suc k) w = ap (λ (l : List (Option ℕ)). kept x ∷ l) (ma
 set_agree : (table exact : List (Option ℕ)) (k : ℕ) (v w : Option ℕ) → AgreeAll table exact → Agree v w → AgreeAll (slice_set table k v) (slice_set exact k w)
 set_agree table exact k v w same e = map_set table k v ∙ ap (λ (l : List (Option ℕ)). slice_set l k (kept v)) same ∙ ap (λ (o : Option ℕ). slice_set (map kept exact) k o) e ∙ sym (map_set exact k w)
 
-module _ (ss : List DeclaredStruct) (cycles : List Bool) where
+module _ (ss : List Fields) (cycles : List Bool) where
   pub fill_passed : (table exact : List (Option ℕ)) (k : ℕ) → slice_index_or cycles k false ≡ true → AgreeAll table exact → AgreeAll table (filled_at ss cycles exact k)
   fill_passed table exact k e same = subst (λ (b : Bool). AgreeAll table (if b then exact else slice_set exact k (sum_words exact (fields_in (slice_get ss k))))) (sym e) same
 
-  pub fill_entered : (table exact : List (Option ℕ)) (k : ℕ) (s : DeclaredStruct) (words : Option ℕ) → slice_index_or cycles k false ≡ false → slice_get ss k ≡ Some s → Agree words (sum_words table s.fields.items) → AgreeAll table exact → AgreeAll (slice_set table k words) (filled_at ss cycles exact k)
+  pub fill_entered : (table exact : List (Option ℕ)) (k : ℕ) (s : Fields) (words : Option ℕ) → slice_index_or cycles k false ≡ false → slice_get ss k ≡ Some s → Agree words (sum_words table s) → AgreeAll table exact → AgreeAll (slice_set table k words) (filled_at ss cycles exact k)
   fill_entered table exact k s words e at is same =
       subst (λ (b : Bool). AgreeAll (slice_set table k words) (if b then exact else slice_set exact k (sum_words exact (fields_in (slice_get ss k))))) (sym e)
-      (subst (λ (o : Option DeclaredStruct). AgreeAll (slice_set table k words) (slice_set exact k (sum_words exact (fields_in o)))) (sym at)
-      (set_agree table exact k words (sum_words exact s.fields.items) same (is ∙ agree_sum table exact same s.fields.items)))
+      (subst (λ (o : Option Fields). AgreeAll (slice_set table k words) (slice_set exact k (sum_words exact (fields_in o)))) (sym at)
+      (set_agree table exact k words (sum_words exact s) same (is ∙ agree_sum table exact same s)))
 
   filled_push : (table : List (Option ℕ)) (ks : List ℕ) (k : ℕ) → filled ss cycles table (ks ++ k ∷ []) ≡ filled_at ss cycles (filled ss cycles table ks) k
   filled_push table [] k = refl
@@ -51,7 +51,7 @@ module _ (ss : List DeclaredStruct) (cycles : List Bool) where
 taken_more : (cs : List (List ℕ)) (i : ℕ) (c : List ℕ) → slice_get cs i ≡ Some c → take (i + 1) cs ≡ take i cs ++ c ∷ []
 taken_more cs i c at = take_more cs i [] (at_within cs i c at) ∙ ap (λ (x : List ℕ). take i cs ++ x ∷ []) (get_or_from_slice_get cs i c [] at)
 
-module _ (ss : List DeclaredStruct) (cycles : List Bool) (table : List (Option ℕ)) where
+module _ (ss : List Fields) (cycles : List Bool) (table : List (Option ℕ)) where
   pub filled_all_more : (cs : List (List ℕ)) (i : ℕ) (c : List ℕ) → slice_get cs i ≡ Some c → filled ss cycles (filled_all ss cycles table (take i cs)) c ≡ filled_all ss cycles table (take (i + 1) cs)
   filled_all_more cs i c at = sym (all_push ss cycles table (take i cs) c) ∙ ap (filled_all ss cycles table) (sym (taken_more cs i c at))
 
@@ -65,14 +65,14 @@ module _ (t : List (List ℕ)) (flaws : List Flaw) (table : List (Option ℕ)) w
 
 -- ---- flaws
 
-pub flaws_more : (table : List (Option ℕ)) (ss : List DeclaredStruct) (cycles : List Bool) (flaws : List Flaw) (s : DeclaredStruct) (flaw : Flaw) → slice_get ss (length flaws) ≡ Some s → IsFlaw table s.fields.items (slice_index_or cycles (length flaws) false) (slice_index_or table (length flaws) None) flaw → AreFlaws table ss cycles flaws → AreFlaws table ss cycles (flaws ++ flaw ∷ [])
+pub flaws_more : (table : List (Option ℕ)) (ss : List Fields) (cycles : List Bool) (flaws : List Flaw) (s : Fields) (flaw : Flaw) → slice_get ss (length flaws) ≡ Some s → IsFlaw table s (slice_index_or cycles (length flaws) false) (slice_index_or table (length flaws) None) flaw → AreFlaws table ss cycles flaws → AreFlaws table ss cycles (flaws ++ flaw ∷ [])
 flaws_more table ss cycles flaws s flaw at is are k r f at_r at_f = elim (at_push_cases flaws flaw k f at_f) [
   | inl old ↦ are k r f at_r old
   | inr new ↦ (
       let same : s ≡ r = at_one ss (length flaws) s r at (subst (λ (x : ℕ). slice_get ss x ≡ Some r) new.0 at_r) in
-      subst (λ (x : ℕ). IsFlaw table r.fields.items (slice_index_or cycles x false) (slice_index_or table x None) f) (sym new.0)
-      (subst (λ (x : Flaw). IsFlaw table r.fields.items (slice_index_or cycles (length flaws) false) (slice_index_or table (length flaws) None) x) new.1
-      (subst (λ (x : DeclaredStruct). IsFlaw table x.fields.items (slice_index_or cycles (length flaws) false) (slice_index_or table (length flaws) None) flaw) same is))
+      subst (λ (x : ℕ). IsFlaw table r (slice_index_or cycles x false) (slice_index_or table x None) f) (sym new.0)
+      (subst (λ (x : Flaw). IsFlaw table r (slice_index_or cycles (length flaws) false) (slice_index_or table (length flaws) None) x) new.1
+      (subst (λ (x : Fields). IsFlaw table x (slice_index_or cycles (length flaws) false) (slice_index_or table (length flaws) None) flaw) same is))
       )
 ]
 

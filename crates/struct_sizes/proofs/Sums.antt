@@ -10,9 +10,7 @@ use Rattle.struct_sizes.specs.declared.forms.Prefix.{Prefix}
 use Rattle.struct_sizes.specs.declared.forms.Prefix.TheVariants.{Pointer, Slice, Array}
 use Rattle.struct_sizes.specs.declared.forms.Base.{Base}
 use Rattle.struct_sizes.specs.declared.forms.Base.TheVariants.{Int, Bool as Truth, Struct}
-use Rattle.struct_sizes.specs.declared.forms.PrefixedType.{PrefixedType}
-use Rattle.struct_sizes.specs.declared.forms.DeclaredStruct.{DeclaredStruct}
-use Rattle.struct_sizes.specs.Structs.{named, is_in_place, held_in, mentioned_in, holds, mentions}
+use Rattle.struct_sizes.specs.Structs.{Prefixed, Fields, named, is_in_place, held_in, mentioned_in, holds, mentions}
 use Rattle.struct_sizes.specs.Words.{prefix_words, prefixed_words, base_words, type_words, field_words, added, sum_words, IsTable, OneTable}
 use Rattle.struct_sizes.specs.Faults.{FieldFails, FieldsFail}
 use Rattle.components.specs.Graph.{Among, row_in, row, Leads}
@@ -21,27 +19,27 @@ use Rattle.struct_sizes.proofs.Ways.{holds_of_all}
 
 -- ---- rows
 
-pub held_row : (ss : List DeclaredStruct) (k : ℕ) (s : DeclaredStruct) → slice_get ss k ≡ Some s → row (holds ss) k ≡ flat_map held_in s.fields.items
-held_row ss k s at = ap row_in (slice_get-map (λ (x : DeclaredStruct). flat_map held_in x.fields.items) ss k ∙ ap (option_map (λ (x : DeclaredStruct). flat_map held_in x.fields.items)) at)
+pub held_row : (ss : List Fields) (k : ℕ) (s : Fields) → slice_get ss k ≡ Some s → row (holds ss) k ≡ flat_map held_in s
+held_row ss k s at = ap row_in (slice_get-map (λ (x : Fields). flat_map held_in x) ss k ∙ ap (option_map (λ (x : Fields). flat_map held_in x)) at)
 
-pub mentioned_row : (ss : List DeclaredStruct) (k : ℕ) (s : DeclaredStruct) → slice_get ss k ≡ Some s → row (mentions ss) k ≡ flat_map mentioned_in s.fields.items
-mentioned_row ss k s at = ap row_in (slice_get-map (λ (x : DeclaredStruct). flat_map mentioned_in x.fields.items) ss k ∙ ap (option_map (λ (x : DeclaredStruct). flat_map mentioned_in x.fields.items)) at)
+pub mentioned_row : (ss : List Fields) (k : ℕ) (s : Fields) → slice_get ss k ≡ Some s → row (mentions ss) k ≡ flat_map mentioned_in s
+mentioned_row ss k s at = ap row_in (slice_get-map (λ (x : Fields). flat_map mentioned_in x) ss k ∙ ap (option_map (λ (x : Fields). flat_map mentioned_in x)) at)
 
-pub holds_length : (ss : List DeclaredStruct) → length (holds ss) ≡ length ss
+pub holds_length : (ss : List Fields) → length (holds ss) ≡ length ss
 holds_length ss = length-map ss _
 
-pub mentions_length : (ss : List DeclaredStruct) → length (mentions ss) ≡ length ss
+pub mentions_length : (ss : List Fields) → length (mentions ss) ≡ length ss
 mentions_length ss = length-map ss _
 
-held_mentioned : (k : ℕ) (f : Option PrefixedType) → Among k (held_in f) → Among k (mentioned_in f)
+held_mentioned : (k : ℕ) (f : Option Prefixed) → Among k (held_in f) → Among k (mentioned_in f)
 held_mentioned k None h = h
-held_mentioned k (Some t) h = by (is_in_place t.prefixes.items) h
+held_mentioned k (Some t) h = by (is_in_place t.prefixes) h
   where
     by : (b : Bool) → Among k (if b then named t.base else []) → Among k (named t.base)
     by true h = h
     by false h = absurd h
 
-pub all_held_mentioned : (k : ℕ) (fs : List (Option PrefixedType)) → Among k (flat_map held_in fs) → Among k (flat_map mentioned_in fs)
+pub all_held_mentioned : (k : ℕ) (fs : Fields) → Among k (flat_map held_in fs) → Among k (flat_map mentioned_in fs)
 all_held_mentioned k [] h = h
 all_held_mentioned k (f ∷ fs) h = elim (among_split k (held_in f) (flat_map held_in fs) h) [
   | inl here ↦ among_left k (mentioned_in f) (flat_map mentioned_in fs) (held_mentioned k f here)
@@ -66,16 +64,16 @@ module _ (table other : List (Option ℕ)) where
   same_base Truth same = refl
   same_base (Struct id) same = same id.0 (inl refl)
 
-  same_field : (f : Option PrefixedType) → SameOf (held_in f) → field_words table f ≡ field_words other f
+  same_field : (f : Option Prefixed) → SameOf (held_in f) → field_words table f ≡ field_words other f
   unfolding SameOf
   same_field None same = refl
-  same_field (Some t) same = by (is_in_place t.prefixes.items) refl
+  same_field (Some t) same = by (is_in_place t.prefixes) refl
     where
-      by : (b : Bool) → is_in_place t.prefixes.items ≡ b → type_words table t ≡ type_words other t
-      by true e = ap (prefixed_words t.prefixes.items) (same_base t.base (λ k h. same k (subst (λ (b : Bool). Among k (if b then named t.base else [])) (sym e) h)))
-      by false e = apart_words t.prefixes.items (base_words table t.base) (base_words other t.base) e
+      by : (b : Bool) → is_in_place t.prefixes ≡ b → type_words table t ≡ type_words other t
+      by true e = ap (prefixed_words t.prefixes) (same_base t.base (λ k h. same k (subst (λ (b : Bool). Among k (if b then named t.base else [])) (sym e) h)))
+      by false e = apart_words t.prefixes (base_words table t.base) (base_words other t.base) e
 
-  pub same_sums : (fs : List (Option PrefixedType)) → ((k : ℕ) → Among k (flat_map held_in fs) → get_or table k None ≡ get_or other k None) → sum_words table fs ≡ sum_words other fs
+  pub same_sums : (fs : Fields) → ((k : ℕ) → Among k (flat_map held_in fs) → get_or table k None ≡ get_or other k None) → sum_words table fs ≡ sum_words other fs
   unfolding SameOf
   same_sums [] same = refl
   same_sums (f ∷ fs) same = ap₂ added (same_field f (λ k h. same k (among_left k (held_in f) (flat_map held_in fs) h))) (same_sums fs (λ k h. same k (among_right k (held_in f) (flat_map held_in fs) h)))
@@ -91,7 +89,7 @@ stable (Some a) (Some b) h = elim (cases_eq a b) [ inl e ↦ ap Some e | inr oth
 pub past : (table : List (Option ℕ)) (k : ℕ) → length table ≤ k → get_or table k None ≡ None
 past table k le = sym (unwrap_or-slice_get table k None) ∙ ap (λ (o : Option (Option ℕ)). unwrap_or o None) (slice_get_past table k le)
 
-module _ (ss : List DeclaredStruct) (table other : List (Option ℕ)) (a : IsTable ss table) (b : IsTable ss other) where
+module _ (ss : List Fields) (table other : List (Option ℕ)) (a : IsTable ss table) (b : IsTable ss other) where
   Same : ℕ → Type 0
   Same k = get_or table k None ≡ get_or other k None
 
@@ -108,10 +106,10 @@ module _ (ss : List DeclaredStruct) (table other : List (Option ℕ)) (a : IsTab
       sums : (Leads (holds ss) k k → ⊥) → get_or table k None ≡ get_or other k None
       sums no_loop =
           let there = at_there ss k here in
-          let s : DeclaredStruct = there.0 in
-          get_or_from_slice_get table k (sum_words table s.fields.items) None (a.sums k s there.1 no_loop)
-          ∙ same_sums table other s.fields.items (λ j h. known j (subst (λ (l : List ℕ). Among j l) (sym (held_row ss k s there.1)) h) (cases_lt j (length ss)))
-          ∙ sym (get_or_from_slice_get other k (sum_words other s.fields.items) None (b.sums k s there.1 no_loop))
+          let s : Fields = there.0 in
+          get_or_from_slice_get table k (sum_words table s) None (a.sums k s there.1 no_loop)
+          ∙ same_sums table other s (λ j h. known j (subst (λ (l : List ℕ). Among j l) (sym (held_row ss k s there.1)) h) (cases_lt j (length ss)))
+          ∙ sym (get_or_from_slice_get other k (sum_words other s) None (b.sums k s there.1 no_loop))
         where
           known : (j : ℕ) → Among j (row (holds ss) k) → (j < length ss) ⊎ (length ss ≤ j) → get_or table j None ≡ get_or other j None
           known j h (inl l) = below no_loop j h (subst (λ (n : ℕ). j < n) (sym (holds_length ss)) l)
@@ -158,15 +156,15 @@ module _ (table : List (Option ℕ)) where
   none_base Truth e = let bad : ◌≡◌ {A = Option ℕ} (Some 1) None = e in absurd cc
   none_base (Struct id) e = (id.0, inl refl, e)
 
-  none_field : (f : Option PrefixedType) → field_words table f ≡ None → FieldFails table f ⊎ HoldsNone (held_in f)
+  none_field : (f : Option Prefixed) → field_words table f ≡ None → FieldFails table f ⊎ HoldsNone (held_in f)
   unfolding HoldsNone
   none_field None e = inl tt
   none_field (Some t) e =
-      let under = none_under t.prefixes.items (base_words table t.base) e in
+      let under = none_under t.prefixes (base_words table t.base) e in
       let held = none_base t.base under.1 in
       inr (held.0, subst (λ (b : Bool). Among held.0 (if b then named t.base else [])) (sym under.0) held.1, held.2)
 
-  pub none_sums : (fs : List (Option PrefixedType)) → sum_words table fs ≡ None → FieldsFail table fs ⊎ ((k : ℕ) × Among k (flat_map held_in fs) × (get_or table k None ≡ None))
+  pub none_sums : (fs : Fields) → sum_words table fs ≡ None → FieldsFail table fs ⊎ ((k : ℕ) × Among k (flat_map held_in fs) × (get_or table k None ≡ None))
   unfolding HoldsNone
   none_sums [] e = let bad : ◌≡◌ {A = Option ℕ} (Some 0) None = e in absurd cc
   none_sums (f ∷ fs) e = elim (added_none (field_words table f) (sum_words table fs) e) [

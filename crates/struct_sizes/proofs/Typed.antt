@@ -9,13 +9,12 @@ use Rattle.struct_sizes.specs.declared.forms.Prefix.{Prefix}
 use Rattle.struct_sizes.specs.declared.forms.Prefix.TheVariants.{Pointer, Slice, Array}
 use Rattle.struct_sizes.specs.declared.forms.Base.{Base}
 use Rattle.struct_sizes.specs.declared.forms.Base.TheVariants.{Int, Bool as Truth, Struct}
-use Rattle.struct_sizes.specs.declared.forms.PrefixedType.{PrefixedType}
-use Rattle.struct_sizes.specs.declared.forms.DeclaredStruct.{DeclaredStruct}
 use Rattle.struct_sizes.specs.declared.verdicts.SizeFault.{SizeFault}
 use Rattle.struct_sizes.specs.declared.verdicts.LevelFault.{LevelFault}
 use Rattle.struct_sizes.specs.declared.verdicts.Verdict.{Verdict}
 use Rattle.struct_sizes.specs.declared.verdicts.Verdict.TheVariants.{Sized, Refused}
 use Rattle.struct_sizes.specs.declared.verdicts.Verdicts.{Verdicts}
+use Rattle.struct_sizes.specs.Structs.{Prefixed, Fields}
 use Rattle.struct_sizes.specs.Words.{prefix_words, prefixed_words, base_words, type_words}
 use Rattle.struct_sizes.specs.Faults.{known_fault, outer_fault, IsInnermost}
 use Rattle.struct_sizes.specs.Verdicts.{IsRefused, IsVerdict, AreVerdicts, BaseRefused, IsTypeVerdict}
@@ -28,11 +27,11 @@ use Rattle.struct_sizes.proofs.Flaws.{past_fault}
 
 -- ---- levels of a table and of one that agrees with it
 
-pub innermost_agree : (table exact : List (Option ℕ)) → AgreeAll table exact → (t : PrefixedType) (f : Option LevelFault) → IsInnermost table t f → IsInnermost exact t f
+pub innermost_agree : (table exact : List (Option ℕ)) → AgreeAll table exact → (t : Prefixed) (f : Option LevelFault) → IsInnermost table t f → IsInnermost exact t f
 innermost_agree table exact same t None is = λ level fault h. is level fault (fails_agree exact table (sym same) t level fault h)
 innermost_agree table exact same t (Some f) is = (fails_agree table exact same t f.level f.kind is.0, λ level fault l h. is.1 level fault l (fails_agree exact table (sym same) t level fault h))
 
-module _ (ss : List DeclaredStruct) (exact : List (Option ℕ)) (found : Verdicts) (a : AreVerdicts ss exact found) where
+module _ (ss : List Fields) (exact : List (Option ℕ)) (found : Verdicts) (a : AreVerdicts ss exact found) where
   verdicts : List Verdict
   verdicts = found.verdicts.items
 
@@ -78,7 +77,7 @@ known_under (Pointer ∷ ps) b w e = (1, refl)
 known_under (Slice ∷ ps) b w e = (3, refl)
 known_under (Array n ∷ ps) b w e = let there = known_under ps b w e in (n * there.0, ap (prefix_words (Array n)) there.1)
 
-none_of : (o : Option SizeFault) → ((f : SizeFault) → o ≡ Some f → ⊥) → o ≡ None
+pub none_of : (o : Option SizeFault) → ((f : SizeFault) → o ≡ Some f → ⊥) → o ≡ None
 none_of None h = refl
 none_of (Some f) h = absurd (h f refl)
 
@@ -92,7 +91,7 @@ agree_none : (o : Option ℕ) → Agree None o → o ≡ None
 agree_none None e = refl
 agree_none (Some w) e = let bad : None ≡ kept (Some w) = e in absurd cc
 
-module _ (ss : List DeclaredStruct) (exact : List (Option ℕ)) (found : Verdicts) (a : AreVerdicts ss exact found) where
+module _ (ss : List Fields) (exact : List (Option ℕ)) (found : Verdicts) (a : AreVerdicts ss exact found) where
   struct_fine : (k : ℕ) → is_refused (verdict_at found.verdicts.items k) ≡ false → known_fault (get_or exact k None) ≡ None
   struct_fine k e =
       let stands = (struct_sized ss exact found a k e).0 in
@@ -103,18 +102,18 @@ module _ (ss : List DeclaredStruct) (exact : List (Option ℕ)) (found : Verdict
   base_fine Truth e = refl
   base_fine (Struct id) e = struct_fine id.0 e
 
-  module _ (t : PrefixedType) (e : is_base_refused found.verdicts.items t.base ≡ false) where
+  module _ (t : Prefixed) (e : is_base_refused found.verdicts.items t.base ≡ false) where
     -- where no level fails the words are known, and those that are kept are exact
     pub exact_words : (w : ℕ) → IsInnermost found.words.items t None → Agree (Some w) (type_words found.words.items t) → type_words exact t ≡ Some w
     exact_words w none agrees =
         let all : Agree (Some w) (type_words exact t) = agrees ∙ agree_type found.words.items exact a.kept t in
-        let fine = fine_under t.prefixes.items (base_words exact t.base) (base_fine t.base e) (λ f h. innermost_agree found.words.items exact a.kept t None none 0 f h) in
+        let fine = fine_under t.prefixes (base_words exact t.base) (base_fine t.base e) (λ f h. innermost_agree found.words.items exact a.kept t None none 0 f h) in
         exact_from w (type_words exact t) all (agree_fault (Some w) (type_words exact t) all ∙ fine)
 
     pub not_unknown : Agree None (type_words found.words.items t) → ⊥
     not_unknown agrees =
         let base = base_known ss exact found a t.base e in
-        let known = known_under t.prefixes.items (base_words exact t.base) base.0 base.1 in
+        let known = known_under t.prefixes (base_words exact t.base) base.0 base.1 in
         let none = agree_none (type_words exact t) (agrees ∙ agree_type found.words.items exact a.kept t) in
         let bad : None ≡ Some known.0 = sym none ∙ known.1 in cc
 

@@ -3,8 +3,6 @@ use Rattle.std.specs.Prelude.{◌≡◌, ℕ, Bool, true, false, ◌&&◌, ◌||
 use Rattle.std.specs.List.{list_any}
 use Rattle.struct_sizes.specs.declared.forms.Base.{Base}
 use Rattle.struct_sizes.specs.declared.forms.Base.TheVariants.{Int, Bool as Truth, Struct}
-use Rattle.struct_sizes.specs.declared.forms.PrefixedType.{PrefixedType}
-use Rattle.struct_sizes.specs.declared.forms.DeclaredStruct.{DeclaredStruct}
 use Rattle.struct_sizes.specs.declared.verdicts.StructFault.{StructFault}
 use Rattle.struct_sizes.specs.declared.verdicts.StructFault.TheVariants.{HoldsItself, Size}
 use Rattle.struct_sizes.specs.declared.verdicts.Refusal.{Refusal}
@@ -13,39 +11,40 @@ use Rattle.struct_sizes.specs.declared.verdicts.Verdict.TheVariants.{Sized, Refu
 use Rattle.struct_sizes.specs.declared.faults.Flaw.{Flaw}
 use Rattle.struct_sizes.specs.declared.judging.Ruling.{Ruling}
 use Rattle.struct_sizes.specs.declared.faults.Flaw.TheVariants.{Fine, InForm, OnCycle, InSize}
+use Rattle.struct_sizes.specs.Structs.{Fields}
 use Rattle.struct_sizes.specs.Words.{sum_words}
 use Rattle.struct_sizes.specs.Faults.{known_fault, FieldsFail}
 use Rattle.components.specs.Graph.{row}
 
 -- ---- words
 
-abbrev pub fields_in : Option DeclaredStruct → List (Option PrefixedType)
+abbrev pub fields_in : Option Fields → Fields
 fields_in None = []
-fields_in (Some s) = s.fields.items
+fields_in (Some s) = s
 
 -- the words of a struct enter the table, if it isn't on a cycle
-abbrev pub filled_at : List DeclaredStruct → List Bool → List (Option ℕ) → ℕ → List (Option ℕ)
+abbrev pub filled_at : List Fields → List Bool → List (Option ℕ) → ℕ → List (Option ℕ)
 filled_at ss cycles table k = if slice_index_or cycles k false then table else slice_set table k (sum_words table (fields_in (slice_get ss k)))
 
-abbrev pub filled : List DeclaredStruct → List Bool → List (Option ℕ) → List ℕ → List (Option ℕ)
+abbrev pub filled : List Fields → List Bool → List (Option ℕ) → List ℕ → List (Option ℕ)
 filled ss cycles table [] = table
 filled ss cycles table (k ∷ ks) = filled ss cycles (filled_at ss cycles table k) ks
 
-abbrev pub filled_all : List DeclaredStruct → List Bool → List (Option ℕ) → List (List ℕ) → List (Option ℕ)
+abbrev pub filled_all : List Fields → List Bool → List (Option ℕ) → List (List ℕ) → List (Option ℕ)
 filled_all ss cycles table [] = table
 filled_all ss cycles table (c ∷ cs) = filled_all ss cycles (filled ss cycles table c) cs
 
 -- ---- what is wrong with a struct by itself
 
-abbrev pub IsFlaw : List (Option ℕ) → List (Option PrefixedType) → (is_on_cycle : Bool) → Option ℕ → Flaw → Type 0
+abbrev pub IsFlaw : List (Option ℕ) → Fields → (is_on_cycle : Bool) → Option ℕ → Flaw → Type 0
 IsFlaw table fs cycle words Fine = (cycle ≡ false) × (FieldsFail table fs → ⊥) × (known_fault words ≡ None)
 IsFlaw table fs cycle words InForm = (cycle ≡ false) × FieldsFail table fs
 IsFlaw table fs cycle words OnCycle = cycle ≡ true
 IsFlaw table fs cycle words (InSize fault) = (cycle ≡ false) × (FieldsFail table fs → ⊥) × (known_fault words ≡ Some fault)
 
-abbrev pub AreFlaws : List (Option ℕ) → List DeclaredStruct → List Bool → List Flaw → Type 0
-AreFlaws table ss cycles flaws = (k : ℕ) (s : DeclaredStruct) (flaw : Flaw) → slice_get ss k ≡ Some s → slice_get flaws k ≡ Some flaw
-    → IsFlaw table s.fields.items (slice_index_or cycles k false) (slice_index_or table k None) flaw
+abbrev pub AreFlaws : List (Option ℕ) → List Fields → List Bool → List Flaw → Type 0
+AreFlaws table ss cycles flaws = (k : ℕ) (s : Fields) (flaw : Flaw) → slice_get ss k ≡ Some s → slice_get flaws k ≡ Some flaw
+    → IsFlaw table s (slice_index_or cycles k false) (slice_index_or table k None) flaw
 
 abbrev pub is_by_form : Flaw → Bool
 is_by_form Fine = false

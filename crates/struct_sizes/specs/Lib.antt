@@ -1,4 +1,4 @@
--- Structs (which struct holds or mentions which), Words (the words of types and structs), Faults (what is wrong with them), and
+-- Structs (types and structs, and which struct holds or mentions which), Words (their words), Faults (what is wrong with them), and
 -- Verdicts (which are refused, and what is told) are the contract. Kept and Filling are inside.
 pub mod Structs
 pub mod Words

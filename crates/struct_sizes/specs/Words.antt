@@ -5,9 +5,7 @@ use Rattle.struct_sizes.specs.declared.forms.Prefix.{Prefix}
 use Rattle.struct_sizes.specs.declared.forms.Prefix.TheVariants.{Pointer, Slice, Array}
 use Rattle.struct_sizes.specs.declared.forms.Base.{Base}
 use Rattle.struct_sizes.specs.declared.forms.Base.TheVariants.{Int, Bool as Truth, Struct}
-use Rattle.struct_sizes.specs.declared.forms.PrefixedType.{PrefixedType}
-use Rattle.struct_sizes.specs.declared.forms.DeclaredStruct.{DeclaredStruct}
-use Rattle.struct_sizes.specs.Structs.{holds}
+use Rattle.struct_sizes.specs.Structs.{Prefixed, Fields, holds}
 use Rattle.components.specs.Graph.{Leads}
 
 -- the words behind a prefix, by those of what follows it, where they are known: a pointer is an address, and a slice an address and
@@ -27,10 +25,10 @@ base_words table Int = Some 1
 base_words table Truth = Some 1
 base_words table (Struct id) = slice_index_or table id.0 None
 
-abbrev pub type_words : List (Option ℕ) → PrefixedType → Option ℕ
-type_words table t = prefixed_words t.prefixes.items (base_words table t.base)
+abbrev pub type_words : List (Option ℕ) → Prefixed → Option ℕ
+type_words table t = prefixed_words t.prefixes (base_words table t.base)
 
-abbrev pub field_words : List (Option ℕ) → Option PrefixedType → Option ℕ
+abbrev pub field_words : List (Option ℕ) → Option Prefixed → Option ℕ
 field_words table None = None
 field_words table (Some t) = type_words table t
 
@@ -40,16 +38,16 @@ added (Some words) None = None
 added (Some words) (Some more) = Some (words + more)
 
 -- the words of fields together
-abbrev pub sum_words : List (Option ℕ) → List (Option PrefixedType) → Option ℕ
+abbrev pub sum_words : List (Option ℕ) → Fields → Option ℕ
 sum_words table [] = Some 0
 sum_words table (f ∷ fs) = added (field_words table f) (sum_words table fs)
 
 -- the words of all structs: a struct that holds itself has none, and any other those of its fields
-pub record IsTable (ss : List DeclaredStruct) (table : List (Option ℕ)) : Type 0 where
+pub record IsTable (ss : List Fields) (table : List (Option ℕ)) : Type 0 where
   pub size : length table ≡ length ss
   pub endless : (k : ℕ) → k < length ss → Leads (holds ss) k k → slice_get table k ≡ Some None
-  pub sums : (k : ℕ) (s : DeclaredStruct) → slice_get ss k ≡ Some s → (Leads (holds ss) k k → ⊥) → slice_get table k ≡ Some (sum_words table s.fields.items)
+  pub sums : (k : ℕ) (s : Fields) → slice_get ss k ≡ Some s → (Leads (holds ss) k k → ⊥) → slice_get table k ≡ Some (sum_words table s)
 
 -- there is one such table at most
 abbrev pub OneTable : Type 0
-OneTable = (ss : List DeclaredStruct) (table other : List (Option ℕ)) → IsTable ss table → IsTable ss other → table ≡ other
+OneTable = (ss : List Fields) (table other : List (Option ℕ)) → IsTable ss table → IsTable ss other → table ≡ other

@@ -1,6 +1,7 @@
 //! What is wrong with types, and with structs by themselves.
 
-ghost use Rattle.std.specs.Prelude.{◌≡◌, ℕ, ◌↔◌, IsTrue, IfOk, length};
+ghost use Rattle.std.specs.Prelude.{◌≡◌, ℕ, ◌↔◌, IsTrue, IfOk, length, map};
+ghost use Rattle.struct_sizes.specs.Structs.{prefixed_of, field_of, structs_of};
 ghost use Rattle.struct_sizes.specs.Faults.{size_fault, prefix_fault, IsInnermost, FieldFails, FieldsFail, known_fault};
 ghost use Rattle.struct_sizes.specs.Filling.{IsFlaw, AreFlaws};
 
@@ -54,7 +55,7 @@ fn prefix_fault(prefix: Prefix, words: Option<u32>) -> Option<SizeFault>
 
 /// The innermost array of a type that has too few or too many words, by those of the structs.
 pub fn level_fault(table: &[Option<u32>], t: &PrefixedType) -> Option<LevelFault>
-    ensures { IsInnermost table.now t.now result }
+    ensures { IsInnermost table.now (prefixed_of t.now) result }
 {
     let mut words = base_words(table, t.base);
     let mut level = t.prefixes.len();
@@ -70,7 +71,7 @@ pub fn level_fault(table: &[Option<u32>], t: &PrefixedType) -> Option<LevelFault
 
 /// Whether a field is at fault.
 fn field_fails(table: &[Option<u32>], field: &Option<PrefixedType>) -> bool
-    ensures { IsTrue result ↔ FieldFails table.now field.now }
+    ensures { IsTrue result ↔ FieldFails table.now (field_of field.now) }
 {
     match field {
         Some(t) => level_fault(table, t).is_some(),
@@ -80,7 +81,7 @@ fn field_fails(table: &[Option<u32>], field: &Option<PrefixedType>) -> bool
 
 /// Whether one of some fields is at fault.
 fn fields_fail(table: &[Option<u32>], fields: &[Option<PrefixedType>]) -> bool
-    ensures { IsTrue result ↔ FieldsFail table.now fields.now }
+    ensures { IsTrue result ↔ FieldsFail table.now (map field_of fields.now) }
 {
     for field in fields {
         if field_fails(table, field) {
@@ -97,7 +98,7 @@ fn flaw_of(
     is_on_cycle: bool,
     words: Option<u32>,
 ) -> Flaw
-    ensures { IsFlaw table.now fields.now is_on_cycle words result }
+    ensures { IsFlaw table.now (map field_of fields.now) is_on_cycle words result }
 {
     if is_on_cycle {
         return Flaw::OnCycle;
@@ -118,7 +119,7 @@ pub fn flaws(
     on_cycles: &[bool],
     table: &[Option<u32>],
 ) -> Result<Vec<Flaw>, NoMemory>
-    ensures { IfOk result (λ v. (length v.items ≡ length structs.now) × AreFlaws table.now structs.now on_cycles.now v.items) }
+    ensures { IfOk result (λ v. (length v.items ≡ length structs.now) × AreFlaws table.now (structs_of structs.now) on_cycles.now v.items) }
 {
     let mut flaws = Vec::new(alloc);
     for index in 0..structs.len() {

@@ -2,7 +2,7 @@
 
 ghost use Rattle.std.specs.Prelude.{◌≡◌, ◌++◌, IfOk, OnOk};
 ghost use Rattle.std.specs.List.{flat_map};
-ghost use Rattle.struct_sizes.specs.Structs.{named, is_in_place, held_in, mentioned_in, holds, mentions};
+ghost use Rattle.struct_sizes.specs.Structs.{field_of, fields_of, structs_of, named, is_in_place, held_in, mentioned_in, holds, mentions};
 ghost use Rattle.components.specs.Graph.{rows};
 
 use crate::forms::{Base, DeclaredStruct, Prefix, PrefixedType};
@@ -34,7 +34,7 @@ fn add_named(ends: &mut Vec<u32>, base: Base) -> Result<(), NoMemory>
 
 /// Adds the struct that a field holds.
 fn add_held(ends: &mut Vec<u32>, field: &Option<PrefixedType>) -> Result<(), NoMemory>
-    ensures { OnOk result (ends.new.items ≡ ends.old.items ++ held_in field.now) }
+    ensures { OnOk result (ends.new.items ≡ ends.old.items ++ held_in (field_of field.now)) }
 {
     match field {
         Some(t) if is_in_place(&t.prefixes) => add_named(ends, t.base),
@@ -44,7 +44,7 @@ fn add_held(ends: &mut Vec<u32>, field: &Option<PrefixedType>) -> Result<(), NoM
 
 /// Adds the struct that a field mentions.
 fn add_mentioned(ends: &mut Vec<u32>, field: &Option<PrefixedType>) -> Result<(), NoMemory>
-    ensures { OnOk result (ends.new.items ≡ ends.old.items ++ mentioned_in field.now) }
+    ensures { OnOk result (ends.new.items ≡ ends.old.items ++ mentioned_in (field_of field.now)) }
 {
     match field {
         Some(t) => add_named(ends, t.base),
@@ -54,7 +54,7 @@ fn add_mentioned(ends: &mut Vec<u32>, field: &Option<PrefixedType>) -> Result<()
 
 /// The structs that a struct holds.
 fn held_by(alloc: Global, declared: &DeclaredStruct) -> Result<Vec<u32>, NoMemory>
-    ensures { IfOk result (λ v. v.items ≡ flat_map held_in declared.now.fields.items) }
+    ensures { IfOk result (λ v. v.items ≡ flat_map held_in (fields_of declared.now)) }
 {
     let mut ends = Vec::new(alloc);
     for field in &declared.fields {
@@ -65,7 +65,7 @@ fn held_by(alloc: Global, declared: &DeclaredStruct) -> Result<Vec<u32>, NoMemor
 
 /// The structs that a struct mentions.
 fn mentioned_by(alloc: Global, declared: &DeclaredStruct) -> Result<Vec<u32>, NoMemory>
-    ensures { IfOk result (λ v. v.items ≡ flat_map mentioned_in declared.now.fields.items) }
+    ensures { IfOk result (λ v. v.items ≡ flat_map mentioned_in (fields_of declared.now)) }
 {
     let mut ends = Vec::new(alloc);
     for field in &declared.fields {
@@ -76,7 +76,7 @@ fn mentioned_by(alloc: Global, declared: &DeclaredStruct) -> Result<Vec<u32>, No
 
 /// For each struct, those that it holds.
 pub fn holds(alloc: Global, structs: &[DeclaredStruct]) -> Result<Vec<Vec<u32>>, NoMemory>
-    ensures { IfOk result (λ v. rows v.items ≡ holds structs.now) }
+    ensures { IfOk result (λ v. rows v.items ≡ holds (structs_of structs.now)) }
 {
     let mut all = Vec::new(alloc);
     for declared in structs {
@@ -88,7 +88,7 @@ pub fn holds(alloc: Global, structs: &[DeclaredStruct]) -> Result<Vec<Vec<u32>>,
 
 /// For each struct, those that it mentions.
 pub fn mentions(alloc: Global, structs: &[DeclaredStruct]) -> Result<Vec<Vec<u32>>, NoMemory>
-    ensures { IfOk result (λ v. rows v.items ≡ mentions structs.now) }
+    ensures { IfOk result (λ v. rows v.items ≡ mentions (structs_of structs.now)) }
 {
     let mut all = Vec::new(alloc);
     for declared in structs {

@@ -2,6 +2,7 @@
 
 ghost use Rattle.std.specs.Prelude.{◌≡◌, ℕ, ◌<◌, IfOk, length, replicate, None, List};
 ghost use Rattle.struct_sizes.specs.declared.verdicts.Verdict.TheVariants.{Sized};
+ghost use Rattle.struct_sizes.specs.Structs.{structs_of};
 ghost use Rattle.struct_sizes.specs.Verdicts.{IsSettled};
 ghost use Rattle.struct_sizes.specs.Filling.{judged_all};
 ghost use Rattle.components.specs.Graph.{Among, rows};
@@ -38,7 +39,7 @@ fn judge_all(
 
 /// The verdict of each struct of a program.
 pub fn settle(alloc: Global, structs: &[DeclaredStruct]) -> Result<Verdicts, NoMemory>
-    ensures { IfOk result (λ v. IsSettled structs.now v) }
+    ensures { IfOk result (λ v. IsSettled (structs_of structs.now) v) }
 {
     let held = holds(alloc, structs)?;
     let by_holding = strong_components(alloc, &held)?;

@@ -1,7 +1,7 @@
 //! The words of types, where the verdicts of the structs are known.
 
 ghost use Rattle.std.specs.Prelude.{◌≡◌, ℕ, List, Option};
-ghost use Rattle.struct_sizes.specs.declared.forms.DeclaredStruct.{DeclaredStruct as Declared};
+ghost use Rattle.struct_sizes.specs.Structs.{Fields, prefixed_of};
 ghost use Rattle.struct_sizes.specs.Verdicts.{AreVerdicts, IsTypeVerdict};
 ghost use Rattle.struct_sizes.specs.Filling.{is_base_refused};
 
@@ -24,7 +24,7 @@ fn is_base_refused(verdicts: &[Verdict], base: Base) -> bool
 /// The words of a type, by what `settle` found of the structs. It is refused where its base is, or else at the innermost array that
 /// has too few or too many words.
 pub fn type_words(found: &Verdicts, t: &PrefixedType) -> Result<u32, TypeRefusal>
-    ensures { (ss : List Declared) (table : List (Option ℕ)) → AreVerdicts ss table found.now → IsTypeVerdict ss table t.now result }
+    ensures { (ss : List Fields) (table : List (Option ℕ)) → AreVerdicts ss table found.now → IsTypeVerdict ss table (prefixed_of t.now) result }
 {
     if is_base_refused(&found.verdicts, t.base) {
         return Err(TypeRefusal::Base);

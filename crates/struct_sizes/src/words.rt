@@ -1,6 +1,7 @@
 //! The words of types, by those of the structs, up to one more than the limit.
 
-ghost use Rattle.std.specs.Prelude.{◌≡◌, ◌*◌};
+ghost use Rattle.std.specs.Prelude.{◌≡◌, ◌*◌, map};
+ghost use Rattle.struct_sizes.specs.Structs.{prefixed_of, field_of};
 ghost use Rattle.struct_sizes.specs.Words.{prefix_words, prefixed_words, base_words, type_words, field_words, added, sum_words};
 ghost use Rattle.struct_sizes.specs.Kept.{capped, kept, Agree};
 
@@ -59,7 +60,7 @@ pub fn base_words(table: &[Option<u32>], base: Base) -> Option<u32>
 
 /// The words of a type.
 pub fn words_by(table: &[Option<u32>], t: &PrefixedType) -> Option<u32>
-    ensures { Agree result (type_words table.now t.now) }
+    ensures { Agree result (type_words table.now (prefixed_of t.now)) }
 {
     let mut words = base_words(table, t.base);
     let mut level = t.prefixes.len();
@@ -72,7 +73,7 @@ pub fn words_by(table: &[Option<u32>], t: &PrefixedType) -> Option<u32>
 
 /// The words of a field.
 fn field_words(table: &[Option<u32>], field: &Option<PrefixedType>) -> Option<u32>
-    ensures { Agree result (field_words table.now field.now) }
+    ensures { Agree result (field_words table.now (field_of field.now)) }
 {
     match field {
         Some(t) => words_by(table, t),
@@ -92,7 +93,7 @@ fn added(words: Option<u32>, more: Option<u32>) -> Option<u32>
 
 /// The words of fields together.
 pub fn sum_words(table: &[Option<u32>], fields: &[Option<PrefixedType>]) -> Option<u32>
-    ensures { Agree result (sum_words table.now fields.now) }
+    ensures { Agree result (sum_words table.now (map field_of fields.now)) }
 {
     let mut sum = Some(0);
     for field in fields {

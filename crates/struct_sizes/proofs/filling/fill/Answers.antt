@@ -1,5 +1,6 @@
 use Rattle.std.proofs.Common.{ℕ, List, Option, take, get_or, ◌∙◌, subst, arith}
 use Rattle.std.proofs.lemmas.Option.{slice_get-get_or}
+use Rattle.struct_sizes.specs.Structs.{structs_of}
 use Rattle.struct_sizes.specs.Kept.{AgreeAll}
 use Rattle.struct_sizes.specs.Filling.{filled}
 use Rattle.components.proofs.Lists.{at_among}
@@ -23,7 +24,7 @@ fill_at-requires-clause-room c =
 
 pub loop-node-preserved : goal.loop-node-preserved
 loop-node-preserved c =
-    let ss = c.args.structs.now in
+    let ss = structs_of c.args.structs.now in
     let cycles = c.args.on_cycles.now in
     let ks = c.args.nodes.now in
     let i = c.loop-node.node-index in (

@@ -1,7 +1,7 @@
-use Rattle.std.proofs.Common.{◌≡◌, take}
+use Rattle.std.proofs.Common.{◌≡◌, take, map}
 use Rattle.std.specs.List.{flat_map}
-use Rattle.struct_sizes.specs.Structs.{held_in}
+use Rattle.struct_sizes.specs.Structs.{field_of, held_in}
 use Rattle.struct_sizes.proofs.graphs.held_by.Given as goal
 
 abbrev pub invariant-loop-field : goal.invariant-loop-field
-invariant-loop-field l = l.ends.items ≡ flat_map held_in (take l.field-index l.declared.fields.items)
+invariant-loop-field l = l.ends.items ≡ flat_map held_in (map field_of (take l.field-index l.declared.fields.items))

@@ -1,7 +1,7 @@
 use Rattle.std.proofs.Common.{◌≡◌, take}
-use Rattle.struct_sizes.specs.Structs.{holds}
+use Rattle.struct_sizes.specs.Structs.{structs_of, holds}
 use Rattle.components.specs.Graph.{rows}
 use Rattle.struct_sizes.proofs.graphs.holds.Given as goal
 
 abbrev pub invariant-loop-declared : goal.invariant-loop-declared
-invariant-loop-declared l = rows l.all.items ≡ holds (take l.declared-index l.structs)
+invariant-loop-declared l = rows l.all.items ≡ holds (structs_of (take l.declared-index l.structs))
