@@ -41,7 +41,7 @@ fn part_type(types: &TypeTable, whole: ValueType, number: u32) -> Option<ValueTy
 }
 
 /// The number of a type that has words.
-pub fn known_number(types: &TypeTable, value_type: ValueType) -> Option<TypeId>
+fn known_number(types: &TypeTable, value_type: ValueType) -> Option<TypeId>
     ensures { option_map (λ id. id.0) result ≡ known_number types.now value_type }
 {
     if is_known(types, value_type) {

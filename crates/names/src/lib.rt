@@ -17,7 +17,7 @@ mod type_names;
 mod universe;
 
 pub use blocks::Blocks;
-pub use fields::{Part, known_number, named_field, part_count, part_of};
+pub use fields::{Part, named_field, part_count, part_of};
 pub use naming::{between, name_in, spelled};
 pub use scope::{
     Declared, External, GlobalId, Known, Scope, Signature, ValueId, beginning, type_id,

@@ -57,12 +57,12 @@ abbrev pub array_parts : Table → ValueType → Option ArrayType
 array_parts T (Array m e) = allowed (is_known T (Array m e)) (Some (record { length = m; element = type_at T e.0 }))
 array_parts T t = None
 
--- the step to an element of an array of a length: an index that is a constant is one of its numbers, and any other an int that is looked at
--- when the program runs
 -- numbers of elements have 32 bits: no array of a program has as many elements
 abbrev pub is_element : (length : ℕ) → ℕ → Bool
 is_element m n = nat_lt n m && nat_lt n (2 ^ 32)
 
+-- the step to an element of an array of a length: an index that is a constant is one of its numbers, and any other an int that is looked at
+-- when the program runs
 abbrev pub number_step : (length : ℕ) → ℤ → Option Steps
 number_step m (pos n) = if is_element m n then Some (inner n here) else None
 number_step m (negsuc n) = None
