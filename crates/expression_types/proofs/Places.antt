@@ -15,11 +15,10 @@ use Rattle.type_faults.proofs.Decided.{Tested, both_tested}
 use Rattle.type_faults.proofs.Leasts.{Kept, kept_more, leaf}
 use Rattle.operators.specs.Operands.{Operand}
 use Rattle.names.specs.Scope.{Scope}
-use Rattle.names.specs.Types.{type_in}
 use Rattle.expression_types.specs.declared.gives.Item.{Item}
 use Rattle.expression_types.specs.declared.wants.Wanted.{Wanted}
 use Rattle.expression_types.specs.declared.wants.Wanted.TheVariants as wants
-use Rattle.expression_types.specs.Typing.{Seen, Many, operand_in, many, asked, wanted_by, declared_wanted, operand_agrees, values_agree, types_agree, fits_with, fits}
+use Rattle.expression_types.specs.Typing.{Seen, Many, operand_in, many, asked, wanted_by, stated_type, declared_wanted, operand_agrees, values_agree, types_agree, fits_with, fits}
 use Rattle.expression_types.specs.Faults.{SinglesFail, ValuesFail, SidesFail, TypesFail, MismatchFails, type_fault}
 use Rattle.expression_types.specs.Passing.{gives_of, seens}
 use Rattle.type_faults.proofs.Lists.{from_one, from_there, nothing_left}
@@ -51,7 +50,7 @@ asked_ask [] = tt
 asked_ask (t ∷ ts) = (tt, asked_ask ts)
 
 -- the names of a declaration, where the type that stands there is known
-pub spec_asks : (text : List ℕ) (s : Scope) (o : Option TreeEx) (ns : List Name) → ((e : TreeEx) → o ≡ Some e → is_some (type_in text s e) ≡ true) → AllAsk (map (λ (n : Name). declared_wanted text s o) ns)
+pub spec_asks : (text : List ℕ) (s : Scope) (o : Option TreeEx) (ns : List Name) → ((e : TreeEx) → o ≡ Some e → is_some (stated_type text s e) ≡ true) → AllAsk (map (λ (n : Name). declared_wanted text s o) ns)
 spec_asks text s o [] known = tt
 spec_asks text s o (n ∷ ns) known = (by o known, spec_asks text s o ns known)
   where
@@ -59,9 +58,9 @@ spec_asks text s o (n ∷ ns) known = (by o known, spec_asks text s o ns known)
     of_type None is = cc is
     of_type (Some u) is = tt
 
-    by : (p : Option TreeEx) → ((e : TreeEx) → p ≡ Some e → is_some (type_in text s e) ≡ true) → Asks (declared_wanted text s p)
+    by : (p : Option TreeEx) → ((e : TreeEx) → p ≡ Some e → is_some (stated_type text s e) ≡ true) → Asks (declared_wanted text s p)
     by None known1 = tt
-    by (Some e) known1 = of_type (type_in text s e) (known1 e refl)
+    by (Some e) known1 = of_type (stated_type text s e) (known1 e refl)
 
 pub is_some_map : {A B : Type 0} (f : A → B) (o : Option A) → is_some (option_map f o) ≡ is_some o
 is_some_map f None = refl

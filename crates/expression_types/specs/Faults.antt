@@ -249,6 +249,11 @@ module _ (text : List ℕ) where
     FailsInEach s tree.none f = ⊥
     FailsInEach s (some e es) f = Fails s e f ⊎ FailsInEach s es f
 
+  -- a rule fails in the type of a declaration, where one stands there
+  abbrev pub FailsBefore : Scope → Option TreeEx → Fault → Type 0
+  FailsBefore s None f = ⊥
+  FailsBefore s (Some e) f = StatedFails s e f
+
   -- a rule fails in an expression with one value
   abbrev pub FailsAsOperand : Scope → TreeEx → Fault → Type 0
   FailsAsOperand s e f = Fails s e f ⊎ IsFault (single_fault (gives text s e)) f

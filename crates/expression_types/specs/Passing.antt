@@ -1,6 +1,6 @@
 -- What lies in memory as abstract syntax, and what the checker's pass works out of what it knows of the parts.
 use Rattle.std.specs.Prelude.{◌≡◌, ℕ, ◌^◌, pos, List, map, nat_lt, Option, Some, None, if◌then◌else◌, Bool, true, false}
-use Rattle.std.specs.Option.{option_map}
+use Rattle.std.specs.Option.{option_map, option_and_then}
 use Rattle.typed_syntax.specs.Syntax.{Exs}
 use Rattle.syntax.specs.declared.expression.Name.{Name}
 use Rattle.syntax.specs.declared.expression.Element.{Element as TreeElement}
@@ -18,6 +18,8 @@ use Rattle.expression_types.specs.declared.gives.Part.{Part as PartData}
 use Rattle.expression_types.specs.declared.gives.Part.TheVariants.{Said, Valued}
 use Rattle.expression_types.specs.declared.gives.Gives.TheVariants.{One, Called, Asking, Quoted, Printed, Panicked, Exited}
 use Rattle.expression_types.specs.declared.gives.Item.{Item}
+use Rattle.expression_types.specs.declared.literals.Stated.{Stated}
+use Rattle.base.specs.declared.value_type.ValueType.{ValueType}
 use Rattle.expression_types.specs.declared.gives.Callee.{Callee as CalleeData}
 use Rattle.expression_types.specs.declared.gives.Callee.TheVariants.{Printer, Panicker, Reader, Exiter, Function, Conversion, NoFunction, NoSpread, NoTextSpread, Nothing}
 use Rattle.expression_types.specs.Typing.{Part, said, valued, Gives, one, called, asking, quoted, printed, panicked, exited, Seen, Many, Callee, printer, panicker, reader, exiter, function, conversion, no_function, no_spread, no_text_spread, nothing, values}
@@ -52,6 +54,13 @@ callee_of NoFunction = no_function
 callee_of NoSpread = no_spread
 callee_of NoTextSpread = no_text_spread
 callee_of Nothing = nothing
+
+-- what stands before the names of a declaration: the type that is known of it, and its fault
+abbrev pub type_before : Option Stated → Option (Option ValueType)
+type_before o = option_map (λ t. t.value_type) o
+
+abbrev pub fault_before : Option Stated → Option Fault
+fault_before o = option_and_then (λ t. t.fault) o
 
 -- all results of a call
 abbrev pub results_of : Many → Exs

@@ -29,7 +29,7 @@ use Rattle.names.specs.declared.scope.External.{External as ExternalFunction}
 use Rattle.names.specs.declared.scope.External.TheVariants as external
 use Rattle.names.specs.Scope.{Scope, Signature, declaration, signature, known}
 use Rattle.names.specs.Naming.{name_in, between}
-use Rattle.names.specs.Types.{type_in, declared_type}
+use Rattle.names.specs.Types.{declared_type}
 use Rattle.operand_parts.specs.Parts.{selected, indexed}
 use Rattle.operand_parts.specs.ArrayTypes.{length_of, array_with}
 use Rattle.operand_parts.specs.Literals.{type_elided, elided, element_part, shape_fits}
@@ -246,6 +246,11 @@ abbrev pub wanted_by : Option ValueType → Wanted
 wanted_by None = wants.Unknown
 wanted_by (Some t) = wants.Typed t
 
+-- what the names of a declaration ask for: what stands before them is a type, isn't known to be one, or isn't there
+abbrev pub wanted_before : Option (Option ValueType) → Wanted
+wanted_before None = wants.Own
+wanted_before (Some t) = wanted_by t
+
 abbrev pub is_typed : Wanted → Bool
 is_typed wants.Own = false
 is_typed (wants.Typed t) = true
@@ -399,14 +404,6 @@ condition_in (counting before e behind) = e
 condition_in (ranging _ at e) = None
 
 module _ (text : List ℕ) where
-  -- what the names of a declaration with this type or none ask for
-  abbrev pub declared_wanted : Scope → Option TreeEx → Wanted
-  declared_wanted s None = wants.Own
-  declared_wanted s (Some e) = wanted_by (type_in text s e)
-
-  abbrev pub spec_wanted : Scope → ValueSpec → List Wanted
-  spec_wanted s v = map (λ n. declared_wanted s v.type_expr) v.names
-
   -- what a name stands for where it is called, or else an expression that gives this
   abbrev pub callee : Scope → Option Name → Option Gives → Callee
   callee s None o = callee_value (operand_in o)
@@ -460,6 +457,13 @@ module _ (text : List ℕ) where
   abbrev pub element_gives : Scope → Option ValueType → TreeEx → Option Gives
   element_gives s t (elements at es) = literal_gives s (type_elided (elided s.types t)) es
   element_gives s t e = gives s e
+
+  -- what the names of a declaration ask for, before which a type stands or none
+  abbrev pub declared_wanted : Scope → Option TreeEx → Wanted
+  declared_wanted s o = wanted_before (option_map (stated_type s) o)
+
+  abbrev pub spec_wanted : Scope → ValueSpec → List Wanted
+  spec_wanted s v = map (λ n. declared_wanted s v.type_expr) v.names
 
   -- what a condition is
   abbrev pub condition : Scope → TreeEx → Option Ex

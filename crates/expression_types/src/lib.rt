@@ -9,6 +9,7 @@
 
 mod calls;
 mod conditions;
+mod declared;
 mod expressions;
 mod gives;
 mod literals;
@@ -17,6 +18,7 @@ mod values;
 mod wants;
 
 pub use conditions::{Condition, Test, check_condition, check_test};
+pub use declared::{check_before, fault_before};
 pub use expressions::{
     Checked, Listed, Single, check_expr, check_list, check_single, check_stated,
 };

@@ -1,15 +1,13 @@
 //! Places for values: left sides, parameters, results and declared names.
 
 ghost use Rattle.std.specs.Prelude.{◌≡◌, IfOk, map};
-ghost use Rattle.syntax.specs.Expressions.{ex_in};
-ghost use Rattle.syntax.specs.Statements.{value_spec_of};
-ghost use Rattle.names.specs.Scope.{scope_of};
-ghost use Rattle.expression_types.specs.Typing.{wanted_by, accepts, asked, declared_wanted, spec_wanted};
+ghost use Rattle.expression_types.specs.Typing.{wanted_by, wanted_before, accepts, asked};
+ghost use Rattle.expression_types.specs.Passing.{type_before};
 
+use crate::literals::Stated;
 use base::{NoMemory, ValueType, same_type};
-use names::{Scope, type_in};
 use std::alloc::Global;
-use syntax::{Expr, Name, ValueSpec};
+use syntax::Name;
 
 /// What a place asks of its value.
 #[derive(Clone, Copy, Debug, PartialEq, Eq)]
@@ -49,32 +47,24 @@ pub fn accepts(place: Wanted, value_type: ValueType) -> bool
     }
 }
 
-/// What the names of a declaration with this type or none ask for.
-fn declared_wanted(text: &[u8], scope: &Scope, type_expr: &Option<Expr>) -> Wanted
-    ensures { result ≡ declared_wanted text.now (scope_of scope.now) (ex_in type_expr.now) }
+/// What the names of a declaration ask for.
+fn wanted_before(stated: &Option<Stated>) -> Wanted
+    ensures { result ≡ wanted_before (type_before stated.now) }
 {
-    match type_expr {
-        Some(e) => wanted_by(type_in(text, scope, e)),
+    match stated {
+        Some(stated) => wanted_by(stated.value_type),
         None => Wanted::Own,
     }
 }
 
-/// The same for each of some names.
-fn for_each_name(alloc: Global, wanted: Wanted, names: &[Name]) -> Result<Vec<Wanted>, NoMemory>
-    ensures { IfOk result (λ v. v.items ≡ map (λ n. wanted) names.now) }
-{
-    Ok(names.iter().map(|_| wanted).collect(alloc)?)
-}
-
-/// What each name of a declaration asks for.
+/// What each name of a declaration asks for, by the type that stands before them, if one does.
 pub fn spec_wanted(
     alloc: Global,
-    text: &[u8],
-    scope: &Scope,
-    spec: &ValueSpec,
+    stated: &Option<Stated>,
+    names: &[Name],
 ) -> Result<Vec<Wanted>, NoMemory>
-    ensures { IfOk result (λ v. v.items ≡ spec_wanted text.now (scope_of scope.now) (value_spec_of spec.now)) }
+    ensures { IfOk result (λ v. v.items ≡ map (λ n. wanted_before (type_before stated.now)) names.now) }
 {
-    let wanted = declared_wanted(text, scope, &spec.type_expr);
-    for_each_name(alloc, wanted, &spec.names)
+    let wanted = wanted_before(stated);
+    Ok(names.iter().map(|_| wanted).collect(alloc)?)
 }

@@ -19,10 +19,9 @@ use Rattle.names.specs.declared.scope.Declared.{Declared}
 use Rattle.names.specs.declared.scope.Known.{Known}
 use Rattle.names.specs.declared.scope.Known.TheVariants as known_as
 use Rattle.names.specs.Scope.{Scope}
-use Rattle.names.specs.Types.{type_in}
 use Rattle.expression_types.specs.declared.wants.Wanted.{Wanted}
-use Rattle.expression_types.specs.Typing.{operand_in, value_in, type_in_one, own_type, many, all_values, values, each, fits, taken, spec_wanted, gives, seen}
-use Rattle.expression_types.specs.Faults.{CountFails, SinglesFail, TakeFails, FailsInEach}
+use Rattle.expression_types.specs.Typing.{operand_in, value_in, type_in_one, own_type, many, all_values, values, each, fits, taken, spec_wanted, gives, stated_type, seen}
+use Rattle.expression_types.specs.Faults.{CountFails, SinglesFail, TakeFails, FailsInEach, FailsBefore}
 use Rattle.expression_types.proofs.DecidedValues.{take_decided}
 use Rattle.expression_types.proofs.Settled.{seen_decided}
 use Rattle.expression_types.proofs.Places.{spec_asks}
@@ -31,7 +30,7 @@ use Rattle.package_values.specs.declared.items.Role.{Role}
 use Rattle.package_values.specs.declared.items.Role.TheVariants as role
 use Rattle.package_values.specs.Values.{Item, items_in, is_variable_type, known_variable, given_by, variable_type, given_as, settled}
 use Rattle.package_values.specs.Needs.{have_form}
-use Rattle.package_values.specs.ValueFaults.{is_this_value, value_name_fault, ValuesFail, is_bare, type_asked, TypeFails, SpecFails, SpecsFail, left_out_fault, ValuesLeftOut, LeftOut, InitialsFail, VariablesFail, AllVariablesFail, DeclarationsFail, NamesFail}
+use Rattle.package_values.specs.ValueFaults.{is_this_value, value_name_fault, ValuesFail, is_bare, type_asked, SpecFails, SpecsFail, left_out_fault, ValuesLeftOut, LeftOut, InitialsFail, VariablesFail, AllVariablesFail, DeclarationsFail, NamesFail}
 use Rattle.package_values.specs.Accepted.{TypeIs, ConstantValuesAre, ConstantsAre, AllConstantsAre, OwnTypesAre, VariableTypesAre, InitialsAre, VariablesAre, AllVariablesAre, SpecsAre, NamesAre, IsGiven, DeclarationsAre}
 use Rattle.package_values.proofs.Holding.{holding}
 use Rattle.package_values.proofs.Giving.{allowed_gives, variable_known}
@@ -64,11 +63,11 @@ module _ (text : List ℕ) (s : Scope) (ds : List Declaration) (h : NothingFails
 
   -- ---- constants
 
-  type_is : (t : Option TreeEx) → Never (TypeFails text r t) → TypeIs text r t
+  type_is : (t : Option TreeEx) → Never (FailsBefore text r t) → TypeIs text r t
   type_is None never = tt
   type_is (Some e) never = type_behind text s ds h e never
 
-  values_are : (t : Option TreeEx) (es : TreeExs) → Never (TypeFails text r t) → Never (FailsInEach text r es) → Never (SinglesFail (seen text r es)) → Never (ValuesFail (type_asked text r t) (seen text r es)) → ConstantValuesAre text r t es
+  values_are : (t : Option TreeEx) (es : TreeExs) → Never (FailsBefore text r t) → Never (FailsInEach text r es) → Never (SinglesFail (seen text r es)) → Never (ValuesFail (type_asked text r t) (seen text r es)) → ConstantValuesAre text r t es
   values_are t none type_never each_never singles never = tt
   values_are t (some e es) type_never each_never singles never = (
     value_behind text s ds h t e (first_pos e) type_never (λ f x. each_never f (inl x)) (λ f x. singles f (inl x)) (λ f x. never f (inl x)),
@@ -93,11 +92,11 @@ module _ (text : List ℕ) (s : Scope) (ds : List Declaration) (h : NothingFails
   -- ---- variables
 
   -- the values that variables begin with
-  types_known : (t : Option TreeEx) → Never (TypeFails text r t) → (e : TreeEx) → t ≡ Some e → is_some (type_in text r e) ≡ true
+  types_known : (t : Option TreeEx) → Never (FailsBefore text r t) → (e : TreeEx) → t ≡ Some e → is_some (stated_type text r e) ≡ true
   types_known None never e is = absurd (none_some is)
-  types_known (Some u) never e is = subst (λ (x : TreeEx). is_some (type_in text r x) ≡ true) (same_some is) (ap is_some (type_behind text s ds h u never).1)
+  types_known (Some u) never e is = subst (λ (x : TreeEx). is_some (stated_type text r x) ≡ true) (same_some is) (ap is_some (type_behind text s ds h u never).1)
 
-  taken_there : (v : ValueSpec) (own : Fault) → Never (TypeFails text r v.type_expr) → Never (FailsInEach text r v.values) → Never (TakeFails own (spec_wanted text r v) (seen text r v.values)) → (xs : Exs) × (taken (spec_wanted text r v) (seen text r v.values) ≡ Some xs)
+  taken_there : (v : ValueSpec) (own : Fault) → Never (FailsBefore text r v.type_expr) → Never (FailsInEach text r v.values) → Never (TakeFails own (spec_wanted text r v) (seen text r v.values)) → (xs : Exs) × (taken (spec_wanted text r v) (seen text r v.values) ≡ Some xs)
   taken_there v own type_never each_never never =
       by (taken (spec_wanted text r v) (seen text r v.values)) (take_decided (seen text r v.values) (FailsInEach text r v.values) (seen_decided text r (settled_behind text s ds h) v.values) own (spec_wanted text r v) (spec_asks text r v.type_expr v.names (types_known v.type_expr type_never)))
     where
@@ -105,7 +104,7 @@ module _ (text : List ℕ) (s : Scope) (ds : List Declaration) (h : NothingFails
       by (Some xs) d = (xs, refl)
       by None d = absurd (elim d.1 [ inl x ↦ each_never d.0 x | inr x ↦ never d.0 x ])
 
-  initials_are : (at : Pos) (v : ValueSpec) → Never (TypeFails text r v.type_expr) → Never (FailsInEach text r v.values) → Never (InitialsFail text r false at v) → InitialsAre text r v
+  initials_are : (at : Pos) (v : ValueSpec) → Never (FailsBefore text r v.type_expr) → Never (FailsInEach text r v.values) → Never (InitialsFail text r false at v) → InitialsAre text r v
   initials_are at v type_never each_never never =
       let xs = taken_there v (fault WrongCount at) type_never each_never (λ f x. never f (inl x)) in
       record { form = forms_behind text s ds h v.values (λ f x. never f (inr x)); xs = xs.0; taken_is = xs.1 }
@@ -134,8 +133,8 @@ module _ (text : List ℕ) (s : Scope) (ds : List Declaration) (h : NothingFails
       let p = allowed_gives (fits ps os) (all_values os (many os)) xs is in
       let q = map_some each (values os) xs (ap (all_values os) (sym (no_call_behind text s ds h es form)) ∙ p.1) in (q.0, q.1)
 
-  types_are : (t : Option TreeEx) (v : ValueSpec) → v.type_expr ≡ t → Never (TypeFails text r t) → Never (LeftOut text r t (seen text r v.values)) → ((t ≡ None) → InitialsAre text r v) → VariableTypesAre text r t v.values
-  types_are (Some e) v is type_never never begin = let t = type_behind text s ds h e type_never in (t.0, t.1, rules_there (type_in text r e) t.0 (first_pos e) t.1 never)
+  types_are : (t : Option TreeEx) (v : ValueSpec) → v.type_expr ≡ t → Never (FailsBefore text r t) → Never (LeftOut text r t (seen text r v.values)) → ((t ≡ None) → InitialsAre text r v) → VariableTypesAre text r t v.values
+  types_are (Some e) v is type_never never begin = let t = type_behind text s ds h e type_never in (t.0, t.1, rules_there (stated_type text r e) t.0 (first_pos e) t.1 never)
   types_are None v is type_never never begin =
       let i = begin refl in let ys = values_there v.values (spec_wanted text r v) i.xs i.form i.taken_is in own_types_are v.values ys.0 ys.1 never
 

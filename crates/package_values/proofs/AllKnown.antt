@@ -34,26 +34,24 @@ use Rattle.names.specs.declared.scope.Declared.TheVariants as declared
 use Rattle.names.specs.declared.scope.Known.{Known}
 use Rattle.names.specs.declared.scope.Known.TheVariants as known_as
 use Rattle.names.specs.Scope.{Scope, Signature, numbered, declaration}
-use Rattle.names.specs.Types.{type_in}
-use Rattle.names.specs.Faults.{FailsAsType}
-use Rattle.names.proofs.Settled.{IsSound, AreSound, IsKnown, IsTyped, IsSettled, predeclared_is, type_decided}
-use Rattle.expression_types.specs.Typing.{are_single, Gives, one, name_operand, prefix_gives, wanted_by, accepts_operand, single, operand_in, type_in_one, own_type, Seen, Many, many_in, many as many_of, count_of, declared_wanted, spec_wanted, gives, seen}
-use Rattle.expression_types.specs.Faults.{single_fault, range_fault, RangeFails, CountFails, SinglesFail, ValuesFail as ManyFail, Fails, FailsInEach}
+use Rattle.names.proofs.Settled.{IsSound, AreSound, IsKnown, IsTyped, IsSettled, predeclared_is}
+use Rattle.expression_types.specs.Typing.{are_single, Gives, one, name_operand, prefix_gives, wanted_by, accepts_operand, single, operand_in, type_in_one, own_type, Seen, Many, many_in, many as many_of, count_of, declared_wanted, spec_wanted, gives, stated_type, seen}
+use Rattle.expression_types.specs.Faults.{single_fault, range_fault, RangeFails, CountFails, SinglesFail, ValuesFail as ManyFail, Fails, StatedFails, FailsInEach, FailsBefore}
 use Rattle.expression_types.proofs.DecidedValues.{single_decided, as_value_decided, ranges_placed}
 use Rattle.expression_types.proofs.Places.{spec_asks}
 use Rattle.expression_types.proofs.InForm.{typed_value}
-use Rattle.expression_types.proofs.Settled.{gives_decided}
+use Rattle.expression_types.proofs.Settled.{gives_decided, stated_decided}
 use Rattle.package_values.specs.Values.{Item, as_constant, unvalued, paired, or_unvalued, items_of, items_in_specs, items_in, with_type, is_variable_type, known_variable, accepted, given_by, variable_type, given_as, given, settled}
 use Rattle.package_values.specs.declared.items.Role.{Role}
 use Rattle.package_values.specs.declared.items.Role.TheVariants as role
 use Rattle.package_values.specs.Needs.{names_in, names_in_each, names_in_some, names_waited, value_number, also, has_form, have_form, waited_form, numbers_of, needed_for, needed_as, needed, needed_in, Needs, Reaches, at_once, through}
-use Rattle.package_values.specs.ValueFaults.{single_count, value_fault, ValuesFail, type_asked, TypeFails, SpecFails, SpecsFail, form_fault, FormsFail, left_out_fault, ValuesLeftOut, InitialsFail, VariablesFail, AllVariablesFail, cycle_place, DeclarationsFail, ItemsFail}
+use Rattle.package_values.specs.ValueFaults.{single_count, value_fault, ValuesFail, type_asked, SpecFails, SpecsFail, form_fault, FormsFail, left_out_fault, ValuesLeftOut, InitialsFail, VariablesFail, AllVariablesFail, cycle_place, DeclarationsFail, ItemsFail}
 use Rattle.components.specs.Graph.{Among}
 use Rattle.package_values.specs.Passing.{has_mark, is_marked}
 use Rattle.package_values.proofs.Growth.{known, Consistent, IsEnd, rounds, rounds_good, rounds_settle, all_seen, rounds_hold}
 use Rattle.package_values.proofs.Holding.{holding}
-use Rattle.package_values.proofs.Giving.{give, monotone, type_same, given_sound, looks_are}
-use Rattle.package_values.proofs.Same.{NameSame, AllSame, all_left, all_right, gives_same, fails_back, type_fails_back}
+use Rattle.package_values.proofs.Giving.{give, monotone, given_sound, looks_are}
+use Rattle.package_values.proofs.Same.{NameSame, AllSame, all_left, all_right, gives_same, stated_same, fails_back, stated_back}
 use Rattle.package_values.proofs.Marks.{unmarked, set_count, set_only, set_length}
 
 element : {A : Type 0} (P : A → Type 0) (xs : List A) (k : ℕ) (x : A) → AllByRecursion P xs → slice_get xs k ≡ Some x → P x
@@ -197,12 +195,12 @@ module _ (text : List ℕ) (s : Scope) (n : ℕ) (formed : IsFormed s.types) (ty
       by g is None e1 d = absurd (single_never d.0 (subst (λ (o : Option Gives). IsFault (single_fault o) d.0) (sym is) d.1))
       by g is (Some x) e1 d = (x, ap operand_in is ∙ e1)
 
-  type_here : (e : TreeEx) → Never (FailsAsType text (holding s cs) e) → (t : ValueType) × (type_in text (holding s cs) e ≡ Some t)
-  type_here e never = by (type_in text (holding s (filled cs)) e) refl (type_decided text (holding s (filled cs)) settled_filled e)
+  type_here : (e : TreeEx) → AllSame text s cs (filled cs) (names_in e) → Never (StatedFails text (holding s cs) e) → (t : ValueType) × (stated_type text (holding s cs) e ≡ Some t)
+  type_here e all never = by (stated_type text (holding s (filled cs)) e) refl (stated_decided text (holding s (filled cs)) settled_filled e)
     where
-      by : (o : Option ValueType) → type_in text (holding s (filled cs)) e ≡ o → Decided o (FailsAsType text (holding s (filled cs)) e) → (t : ValueType) × (type_in text (holding s cs) e ≡ Some t)
-      by None is d = absurd (never d.0 (type_fails_back text s cs (filled cs) e d.0 d.1))
-      by (Some t) is d = (t, type_same text s cs (filled cs) e ∙ is)
+      by : (o : Option ValueType) → stated_type text (holding s (filled cs)) e ≡ o → Decided o (StatedFails text (holding s (filled cs)) e) → (t : ValueType) × (stated_type text (holding s cs) e ≡ Some t)
+      by None is d = absurd (never d.0 (stated_back text s cs (filled cs) e d.0 all d.1))
+      by (Some t) is d = (t, stated_same text s cs (filled cs) e all ∙ is)
 
   no_value : (a : Bool) (at : Pos) → Never (IsFault (cond a (Some (fault Unfit at)) (Some (fault Mismatch at)))) → ⊥
   no_value true at never = never _ refl
@@ -216,21 +214,21 @@ module _ (text : List ℕ) (s : Scope) (n : ℕ) (formed : IsFormed s.types) (ty
   typed_given : (t : ValueType) (c : Fixed) → same_type t (constant_type c.value_type c.value) ≡ true → holds t c.value ≡ true → (f : Fixed) × (with_type t c ≡ Some f)
   typed_given t c same holds1 = (_, ap (λ (b : Bool). allowed (b && holds t c.value) (Some (record { value_type = Some t; value = c.value }))) same ∙ ap (λ (b : Bool). allowed (true && b) (Some (record { value_type = Some t; value = c.value }))) holds1)
 
-  accepted_here : (t : Option TreeEx) (c : Fixed) → Never (TypeFails text (holding s cs) t) → accepts_operand (wanted_by (type_asked text (holding s cs) t)) (constant c) ≡ true → is_held (type_asked text (holding s cs) t) c.value ≡ true
+  accepted_here : (t : Option TreeEx) (c : Fixed) → AllSame text s cs (filled cs) (names_in_some t) → Never (FailsBefore text (holding s cs) t) → accepts_operand (wanted_by (type_asked text (holding s cs) t)) (constant c) ≡ true → is_held (type_asked text (holding s cs) t) c.value ≡ true
       → (f : Fixed) × (accepted text (holding s cs) t c ≡ Some f)
-  accepted_here None c never a h = (c, refl)
-  accepted_here (Some e) c never a h = let t = type_here e never in by t.0 t.1
+  accepted_here None c all never a h = (c, refl)
+  accepted_here (Some e) c all never a h = let t = type_here e all never in by t.0 t.1
     where
-      by : (t : ValueType) → type_in text (holding s cs) e ≡ Some t → (f : Fixed) × (accepted text (holding s cs) (Some e) c ≡ Some f)
+      by : (t : ValueType) → stated_type text (holding s cs) e ≡ Some t → (f : Fixed) × (accepted text (holding s cs) (Some e) c ≡ Some f)
       by t is =
           let same = subst (λ (o : Option ValueType). accepts_operand (wanted_by o) (constant c) ≡ true) is a in
           let held1 = subst (λ (o : Option ValueType). is_held o c.value ≡ true) is h in
           let f = typed_given t c same held1 in (f.0, ap (option_and_then (λ u. with_type u c)) is ∙ f.1)
 
-  value_given : (t : Option TreeEx) (e : TreeEx) (at : Pos) → AllSame text s cs (filled cs) (names_in e) → Never (TypeFails text (holding s cs) t) → Never (Fails text (holding s cs) e)
+  value_given : (t : Option TreeEx) (e : TreeEx) (at : Pos) → AllSame text s cs (filled cs) (names_in_some t) → AllSame text s cs (filled cs) (names_in e) → Never (FailsBefore text (holding s cs) t) → Never (Fails text (holding s cs) e)
       → Never (IsFault (single_fault (gives text (holding s cs) e))) → Never (IsFault (value_fault (type_asked text (holding s cs) t) at (operand_in (gives text (holding s cs) e))))
       → (f : Fixed) × (given_by text (holding s cs) t (Some e) ≡ Some f)
-  value_given t e at all type_never never single_never value_never =
+  value_given t e at type_all all type_never never single_never value_never =
       let x = operand_here e all never single_never in
       by x.0 x.1 (λ f h. value_never f (subst (λ (o : Option Operand). IsFault (value_fault (type_asked text (holding s cs) t) at o) f) (sym x.1) h))
     where
@@ -239,7 +237,7 @@ module _ (text : List ℕ) (s : Scope) (n : ℕ) (formed : IsFormed s.types) (ty
       by nil is free = absurd (no_value (accepts_operand (wanted_by (type_asked text (holding s cs) t)) nil) at free)
       by (constant c) is free =
           let fits = fitting (accepts_operand (wanted_by (type_asked text (holding s cs) t)) (constant c)) (is_held (type_asked text (holding s cs) t) c.value) at free in
-          let f = accepted_here t c type_never fits.0 fits.1 in
+          let f = accepted_here t c type_all type_never fits.0 fits.1 in
           (f.0, ap (λ (o : Option Operand). option_and_then (accepted text (holding s cs) t) (option_and_then as_constant o)) is ∙ f.1)
 
   -- ---- the rules that hold for one constant
@@ -253,7 +251,7 @@ module _ (text : List ℕ) (s : Scope) (n : ℕ) (formed : IsFormed s.types) (ty
 
   -- of the value of a variable without a type
   abbrev HoldsInitial : Option TreeEx → Option TreeEx → TreeExs → Type 0
-  HoldsInitial (Some t) v es = Never (IsFault (left_out_fault (type_in text (holding s cs) t) (first_pos t)))
+  HoldsInitial (Some t) v es = Never (IsFault (left_out_fault (stated_type text (holding s cs) t) (first_pos t)))
   HoldsInitial None None es = (have_form text (holding s cs) es ≡ true) × (AllSame text s cs (filled cs) (names_in_each es) → ⊥)
   HoldsInitial None (Some e) es =
       (has_form text (holding s cs) e ≡ true) × Never (Fails text (holding s cs) e) × Never (IsFault (single_fault (gives text (holding s cs) e)))
@@ -264,10 +262,10 @@ module _ (text : List ℕ) (s : Scope) (n : ℕ) (formed : IsFormed s.types) (ty
   HoldsAs role.Variable t v es = HoldsInitial t v es
 
   record Sound (i : Item) : Type 0 where
-    pub type_holds : Never (TypeFails text (holding s cs) i.type_expr)
+    pub type_holds : Never (FailsBefore text (holding s cs) i.type_expr)
     pub value_holds : HoldsAs i.role i.type_expr i.value i.values
 
-  unvalued_sound : (r : Role) (names : List Name) (t : Option TreeEx) (es : TreeExs) (k : ℕ) (ns : List Name) → Never (TypeFails text (holding s cs) t) → HoldsAs r t None es → AllByRecursion Sound (unvalued r names t es k ns)
+  unvalued_sound : (r : Role) (names : List Name) (t : Option TreeEx) (es : TreeExs) (k : ℕ) (ns : List Name) → Never (FailsBefore text (holding s cs) t) → HoldsAs r t None es → AllByRecursion Sound (unvalued r names t es k ns)
   unvalued_sound r names t es k [] never holds1 = tt
   unvalued_sound r names t es k (x ∷ ns) never holds1 = (record { type_holds = never; value_holds = holds1 }, unvalued_sound r names t es (1 + k) ns never holds1)
 
@@ -276,7 +274,7 @@ module _ (text : List ℕ) (s : Scope) (n : ℕ) (formed : IsFormed s.types) (ty
   EachHolds r t all none = Unit {0}
   EachHolds r t all (some e es) = HoldsAs r t (Some e) all × EachHolds r t all es
 
-  paired_sound : (r : Role) (names : List Name) (t : Option TreeEx) (all : TreeExs) (k : ℕ) (ns : List Name) (es : TreeExs) (is : List Item) → paired r names t all k ns es ≡ Some is → Never (TypeFails text (holding s cs) t) → EachHolds r t all es
+  paired_sound : (r : Role) (names : List Name) (t : Option TreeEx) (all : TreeExs) (k : ℕ) (ns : List Name) (es : TreeExs) (is : List Item) → paired r names t all k ns es ≡ Some is → Never (FailsBefore text (holding s cs) t) → EachHolds r t all es
       → AllByRecursion Sound is
   paired_sound r names t all k [] none is e type_never each = subst (AllByRecursion Sound) (same_some e) tt
   paired_sound r names t all k [] (some x es) is e type_never each = absurd (none_some e)
@@ -398,14 +396,14 @@ module _ (text : List ℕ) (s : Scope) (n : ℕ) (formed : IsFormed s.types) (ty
       )
 
   abbrev IsPlainType : TreeEx → Type 0
-  IsPlainType t = Never (IsFault (left_out_fault (type_in text (holding s cs) t) (first_pos t)))
+  IsPlainType t = Never (IsFault (left_out_fault (stated_type text (holding s cs) t) (first_pos t)))
 
   typed_hold : (t : TreeEx) → IsPlainType t → (all es : TreeExs) → EachHolds role.Variable (Some t) all es
   typed_hold t plain all none = tt
   typed_hold t plain all (some e es) = (plain, typed_hold t plain all es)
 
   -- of a declaration with a type, and of one without
-  typed_sound : (t : TreeEx) (ns : List Name) (es : TreeExs) → Never (FailsAsType text (holding s cs) t) → IsPlainType t → AllByRecursion Sound (items_of role.Variable (record { names = ns; type_expr = Some t; values = es }))
+  typed_sound : (t : TreeEx) (ns : List Name) (es : TreeExs) → Never (StatedFails text (holding s cs) t) → IsPlainType t → AllByRecursion Sound (items_of role.Variable (record { names = ns; type_expr = Some t; values = es }))
   typed_sound t ns es never plain = by (paired role.Variable ns (Some t) es 0 ns es) refl
     where
       by : (o : Option (List Item)) → paired role.Variable ns (Some t) es 0 ns es ≡ o → AllByRecursion Sound (or_unvalued o (unvalued role.Variable ns (Some t) es 0 ns))
@@ -472,10 +470,10 @@ module _ (text : List ℕ) (s : Scope) (n : ℕ) (formed : IsFormed s.types) (ty
 
   -- ---- one that isn't known needs one that isn't
 
-  known_needs : (t v : Option TreeEx) (es : TreeExs) → Never (TypeFails text (holding s cs) t) → Holds t v es → given_by text (holding s cs) t v ≡ None → AllSame text s cs (filled cs) (names_in_some t ++ names_waited v es) → ⊥
+  known_needs : (t v : Option TreeEx) (es : TreeExs) → Never (FailsBefore text (holding s cs) t) → Holds t v es → given_by text (holding s cs) t v ≡ None → AllSame text s cs (filled cs) (names_in_some t ++ names_waited v es) → ⊥
   known_needs t None es type_never holds1 is all = holds1 (all_right text s cs (filled cs) (names_in_some t) (names_in_each es) all)
   known_needs t (Some e) es type_never holds1 is all =
-      let f = value_given t e holds1.0 (all_right text s cs (filled cs) (names_in_some t) (names_in e) all) type_never holds1.1 holds1.2 holds1.3 in none_some (sym is ∙ f.1)
+      let f = value_given t e holds1.0 (all_left text s cs (filled cs) (names_in_some t) (names_in e) all) (all_right text s cs (filled cs) (names_in_some t) (names_in e) all) type_never holds1.1 holds1.2 holds1.3 in none_some (sym is ∙ f.1)
 
   abbrev VariableUnknown : Option TreeEx → Option TreeEx → TreeExs → Type 0
   VariableUnknown (Some t) v es = Unknown (numbers_of text (holding s cs) (names_in t))
@@ -505,8 +503,12 @@ module _ (text : List ℕ) (s : Scope) (n : ℕ) (formed : IsFormed s.types) (ty
       by None is d = absurd (never d.0 d.1)
       by (Some v) is d = let t = typed_value x v is in (t.0, t.1, ap (option_and_then (λ e. type_of x)) is ∙ t.1)
 
-  variable_needs : (t v : Option TreeEx) (es : TreeExs) (m k : ℕ) → Never (TypeFails text (holding s cs) t) → HoldsInitial t v es → option_and_then known_variable (variable_type text (holding s cs) t v es m k) ≡ None → VariableUnknown t v es
-  variable_needs (Some e) v es m k type_never holds1 is = let t = type_here e type_never in absurd (never_unknown (type_in text (holding s cs) e) (first_pos e) t.0 t.1 holds1 is)
+  variable_needs : (t v : Option TreeEx) (es : TreeExs) (m k : ℕ) → Never (FailsBefore text (holding s cs) t) → HoldsInitial t v es → option_and_then known_variable (variable_type text (holding s cs) t v es m k) ≡ None → VariableUnknown t v es
+  variable_needs (Some e) v es m k type_never holds1 is = by (unknown (names_in e))
+    where
+      by : AllSame text s cs (filled cs) (names_in e) ⊎ Unknown (numbers_of text (holding s cs) (names_in e)) → VariableUnknown (Some e) v es
+      by (inl all) = let t = type_here e all type_never in absurd (never_unknown (stated_type text (holding s cs) e) (first_pos e) t.0 t.1 holds1 is)
+      by (inr u) = u
   variable_needs None None es m k type_never holds1 is = by (unknown (names_in_each es))
     where
       by : AllSame text s cs (filled cs) (names_in_each es) ⊎ Unknown (numbers_of text (holding s cs) (names_in_each es)) → VariableUnknown None None es
@@ -522,14 +524,14 @@ module _ (text : List ℕ) (s : Scope) (n : ℕ) (formed : IsFormed s.types) (ty
           (λ f h. holds1.4 f (subst (λ (o : Option ValueType). IsFault (left_out_fault o (first_pos e)) f) (ap (option_and_then (λ y. option_and_then (λ v. type_of y) (as_value y))) x.1 ∙ t.2 ∙ sym (ap (option_and_then type_of) x.1 ∙ t.1)) h)) is)
       by (inr u) = with_form (Some e) es holds1.0 u
 
-  constant_needs : (i : Item) → Never (TypeFails text (holding s cs) i.type_expr) → Holds i.type_expr i.value i.values → given_by text (holding s cs) i.type_expr i.value ≡ None → Unknown (needed_as text (holding s cs) role.Constant i)
+  constant_needs : (i : Item) → Never (FailsBefore text (holding s cs) i.type_expr) → Holds i.type_expr i.value i.values → given_by text (holding s cs) i.type_expr i.value ≡ None → Unknown (needed_as text (holding s cs) role.Constant i)
   constant_needs i type_never holds1 is = by (unknown (names_in_some i.type_expr ++ names_waited i.value i.values))
     where
       by : AllSame text s cs (filled cs) (names_in_some i.type_expr ++ names_waited i.value i.values) ⊎ Unknown (needed_as text (holding s cs) role.Constant i) → Unknown (needed_as text (holding s cs) role.Constant i)
       by (inl all) = absurd (known_needs i.type_expr i.value i.values type_never holds1 is all)
       by (inr u) = u
 
-  needs_as : (r : Role) (i : Item) → Never (TypeFails text (holding s cs) i.type_expr) → HoldsAs r i.type_expr i.value i.values → given_as text r (holding s cs) i ≡ None → Unknown (needed_as text (holding s cs) r i)
+  needs_as : (r : Role) (i : Item) → Never (FailsBefore text (holding s cs) i.type_expr) → HoldsAs r i.type_expr i.value i.values → given_as text r (holding s cs) i ≡ None → Unknown (needed_as text (holding s cs) r i)
   needs_as role.Constant i type_never holds1 is = constant_needs i type_never holds1 (no_map known_as.Constant (given_by text (holding s cs) i.type_expr i.value) is)
   needs_as role.Variable i type_never holds1 is =
       by i.type_expr (variable_needs i.type_expr i.value i.values (length i.names) i.place type_never holds1 is)
@@ -679,13 +681,13 @@ module _ (text : List ℕ) (s : Scope) (ds : List Declaration) where
     abbrev NeverHere : (Fault → Type 0) → Type 0
     NeverHere P = (f : Fault) → P f → ⊥
 
-    pub type_behind : (e : TreeEx) → NeverHere (FailsAsType text (holding s behind) e) → (t : ValueType) × (type_in text (holding s behind) e ≡ Some t)
-    type_behind e never = type_here text s (length s.values) h.formed h.typed behind many_behind held e never
+    pub type_behind : (e : TreeEx) → NeverHere (StatedFails text (holding s behind) e) → (t : ValueType) × (stated_type text (holding s behind) e ≡ Some t)
+    type_behind e never = type_here text s (length s.values) h.formed h.typed behind many_behind held e (same_behind (names_in e)) never
 
-    pub value_behind : (t : Option TreeEx) (e : TreeEx) (at : Pos) → NeverHere (TypeFails text (holding s behind) t) → NeverHere (Fails text (holding s behind) e)
+    pub value_behind : (t : Option TreeEx) (e : TreeEx) (at : Pos) → NeverHere (FailsBefore text (holding s behind) t) → NeverHere (Fails text (holding s behind) e)
         → NeverHere (IsFault (single_fault (gives text (holding s behind) e))) → NeverHere (IsFault (value_fault (type_asked text (holding s behind) t) at (operand_in (gives text (holding s behind) e))))
         → (f : Fixed) × (given_by text (holding s behind) t (Some e) ≡ Some f)
-    value_behind t e at = value_given text s (length s.values) h.formed h.typed behind many_behind held t e at (same_behind (names_in e))
+    value_behind t e at = value_given text s (length s.values) h.formed h.typed behind many_behind held t e at (same_behind (names_in_some t)) (same_behind (names_in e))
 
     pub single_behind : (es : TreeExs) → NeverHere (FailsInEach text (holding s behind) es) → NeverHere (SinglesFail (seen text (holding s behind) es)) → are_single (seen text (holding s behind) es) ≡ true
     single_behind es = all_single text s (length s.values) h.formed h.typed behind many_behind held es (same_behind (names_in_each es))

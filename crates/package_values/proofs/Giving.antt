@@ -25,7 +25,7 @@ use Rattle.names.specs.declared.scope.Known.{Known}
 use Rattle.names.specs.declared.scope.Known.TheVariants as known_as
 use Rattle.names.specs.Scope.{Scope, declaration}
 use Rattle.names.specs.Naming.{name_in}
-use Rattle.names.specs.Types.{array_type as array_of, type_in}
+use Rattle.names.specs.Types.{array_type as array_of}
 use Rattle.names.proofs.Settled.{IsSound, AreSound}
 use Rattle.operand_parts.specs.Parts.{selected, indexed}
 use Rattle.operand_parts.specs.ArrayTypes.{length_of, array_with}
@@ -133,11 +133,6 @@ call_gives at nothing os g h = absurd (none_some h)
 module _ (text : List ℕ) (s : Scope) where
   abbrev pub give : List (Option Known) → Item → Option Known
   give cs i = given text (holding s cs) i
-
-  pub type_same : (cs ds : List (Option Known)) (e : TreeEx) → type_in text (holding s cs) e ≡ type_in text (holding s ds) e
-  type_same cs ds (name n) = refl
-  type_same cs ds (paren at e) = type_same cs ds e
-  type_same cs ds e = refl
 
   module _ (cs ds : List (Option Known)) (within : Within cs ds) where
     known_still : {A : Type 0} (h : Known → A) (k : ℕ) (x : A) → option_map h (known cs k) ≡ Some x → option_map h (known ds k) ≡ Some x
@@ -252,16 +247,16 @@ module _ (text : List ℕ) (s : Scope) where
     operand_still : (e : TreeEx) → Stays (fewer e) (more e)
     operand_still e = single_still (gives text (holding s cs) e) (gives text (holding s ds) e) (gives_still e)
 
-    accepted_same : (t : Option TreeEx) (c : Fixed) → accepted text (holding s cs) t c ≡ accepted text (holding s ds) t c
-    accepted_same None c = refl
-    accepted_same (Some e) c = ap (option_and_then (λ t. with_type t c)) (type_same cs ds e)
+    accepted_still : (t : Option TreeEx) (c : Fixed) → Stays (accepted text (holding s cs) t c) (accepted text (holding s ds) t c)
+    accepted_still None c f h = h
+    accepted_still (Some e) c f h = then_stays (λ t. with_type t c) (λ t. with_type t c) (stated_type text (holding s cs) e) (stated_type text (holding s ds) e) (λ t. refl) (stated_still e) f h
 
     given_still : (t v : Option TreeEx) (f : Fixed) → given_by text (holding s cs) t v ≡ Some f → given_by text (holding s ds) t v ≡ Some f
     given_still t None f h = absurd (none_some h)
     given_still t (Some e) f h =
         let p = and_then_some (accepted text (holding s cs) t) (constant_in (gives text (holding s cs) e)) f h in
         let q = and_then_some as_constant (operand_in (gives text (holding s cs) e)) p.0 p.1 in
-        ap (option_and_then (accepted text (holding s ds) t)) (ap (option_and_then as_constant) (operand_still e q.0 q.1) ∙ q.2) ∙ sym (accepted_same t p.0) ∙ p.2
+        ap (option_and_then (accepted text (holding s ds) t)) (ap (option_and_then as_constant) (operand_still e q.0 q.1) ∙ q.2) ∙ accepted_still t p.0 f p.2
 
     initial_still : (v : Option TreeEx) (es : TreeExs) (n k : ℕ) (t : ValueType) → initial_type text (holding s cs) v es n k ≡ Some t → initial_type text (holding s ds) v es n k ≡ Some t
     initial_still (Some e) es n k t h =
@@ -274,7 +269,7 @@ module _ (text : List ℕ) (s : Scope) where
         ap (λ (l : List Seen). option_and_then result (many l)) (sym (seen_still es (many_give os p.0 p.1))) ∙ h
 
     variable_still : (t v : Option TreeEx) (es : TreeExs) (n k : ℕ) (u : ValueType) → variable_type text (holding s cs) t v es n k ≡ Some u → variable_type text (holding s ds) t v es n k ≡ Some u
-    variable_still (Some e) v es n k u h = sym (type_same cs ds e) ∙ h
+    variable_still (Some e) v es n k u h = stated_still e u h
     variable_still None v es n k u h = initial_still v es n k u h
 
     still_as : (r : Role) (i : Item) (x : Known) → given_as text r (holding s cs) i ≡ Some x → given_as text r (holding s ds) i ≡ Some x
@@ -312,7 +307,7 @@ module _ (text : List ℕ) (s : Scope) where
 
   accepted_held : (cs : List (Option Known)) (t : Option TreeEx) (c f : Fixed) → is_held c.value_type c.value ≡ true → accepted text (holding s cs) t c ≡ Some f → is_held f.value_type f.value ≡ true
   accepted_held cs None c f held is = subst (λ (g : Fixed). is_held g.value_type g.value ≡ true) (same_some is) held
-  accepted_held cs (Some e) c f held is = let p = and_then_some (λ t. with_type t c) (type_in text (holding s cs) e) f is in typed_held p.0 c f p.2
+  accepted_held cs (Some e) c f held is = let p = and_then_some (λ t. with_type t c) (stated_type text (holding s cs) e) f is in typed_held p.0 c f p.2
 
   by_value : (cs : List (Option Known)) → AreSound cs → (t v : Option TreeEx) (f : Fixed) → given_by text (holding s cs) t v ≡ Some f → is_held f.value_type f.value ≡ true
   by_value cs sound t None f is = absurd (none_some is)

@@ -22,18 +22,16 @@ use Rattle.constants.specs.Constants.{constant_type, holds}
 use Rattle.operators.specs.Operands.{Operand, constant, type_of, as_value}
 use Rattle.names.specs.declared.scope.Declared.{Declared}
 use Rattle.names.specs.Scope.{Scope}
-use Rattle.names.specs.Types.{type_in}
-use Rattle.names.specs.Faults.{FailsAsType}
 use Rattle.names.specs.declared.scope.Known.{Known}
-use Rattle.names.proofs.Settled.{AreSound, IsKnown, IsTyped, IsSettled, type_decided}
-use Rattle.expression_types.specs.Typing.{operand_in, type_in_one, own_type, are_single, taken, spec_wanted, gives, seen}
-use Rattle.expression_types.specs.Faults.{CountFails, SinglesFail, TakeFails, Fails, FailsInEach, FailsAsOperand}
+use Rattle.names.proofs.Settled.{AreSound, IsKnown, IsTyped, IsSettled}
+use Rattle.expression_types.specs.Typing.{operand_in, type_in_one, own_type, are_single, taken, spec_wanted, gives, stated_type, seen}
+use Rattle.expression_types.specs.Faults.{CountFails, SinglesFail, TakeFails, Fails, StatedFails, FailsInEach, FailsBefore, FailsAsOperand}
 use Rattle.expression_types.proofs.DecidedValues.{operand_decided, take_decided}
-use Rattle.expression_types.proofs.Settled.{gives_decided, seen_decided}
+use Rattle.expression_types.proofs.Settled.{gives_decided, stated_decided, seen_decided}
 use Rattle.expression_types.proofs.Places.{spec_asks}
 use Rattle.package_values.specs.Values.{Item, items_in, constant_in, is_variable_type, with_type, accepted, given_by, settled}
 use Rattle.package_values.specs.Needs.{has_form, have_form}
-use Rattle.package_values.specs.ValueFaults.{is_this_value, value_fault, value_name_fault, single_count, ValuesFail, is_bare, type_asked, TypeFails, SpecFails, SpecsFail, form_fault, FormsFail, left_out_fault, ValuesLeftOut, LeftOut, InitialsFail, VariablesFail, AllVariablesFail, DeclarationsFail, NamesFail}
+use Rattle.package_values.specs.ValueFaults.{is_this_value, value_fault, value_name_fault, single_count, ValuesFail, is_bare, type_asked, SpecFails, SpecsFail, form_fault, FormsFail, left_out_fault, ValuesLeftOut, LeftOut, InitialsFail, VariablesFail, AllVariablesFail, DeclarationsFail, NamesFail}
 use Rattle.package_values.specs.Accepted.{TypeIs, ConstantValuesAre, ConstantsAre, AllConstantsAre, OwnTypesAre, VariableTypesAre, InitialsAre, VariablesAre, AllVariablesAre, SpecsAre, NamesAre, DeclarationsAre}
 use Rattle.package_values.proofs.Growth.{known, rounds_many}
 use Rattle.package_values.proofs.Holding.{holding}
@@ -63,10 +61,10 @@ name_never k false init d at (inr is) f h =
     let here = subst (λ (b : Bool). IsFault (value_name_fault k false b d at) f) is.0 h in subst (λ (b : Bool). IsFault (cond b None (Some (fault Redeclared at))) f) is.1 here
 
 module _ (text : List ℕ) (r : Scope) (settled1 : IsSettled r) where
-  type_never : (e : TreeEx) (t : ValueType) → type_in text r e ≡ Some t → Never (FailsAsType text r e)
-  type_never e t is = given_never (type_in text r e) t (FailsAsType text r e) is (type_decided text r settled1 e)
+  type_never : (e : TreeEx) (t : ValueType) → stated_type text r e ≡ Some t → Never (StatedFails text r e)
+  type_never e t is = given_never (stated_type text r e) t (StatedFails text r e) is (stated_decided text r settled1 e)
 
-  types_never : (t : Option TreeEx) → TypeIs text r t → Never (TypeFails text r t)
+  types_never : (t : Option TreeEx) → TypeIs text r t → Never (FailsBefore text r t)
   types_never None is f h = h
   types_never (Some e) is f h = type_never e is.0 is.1 f h
 
@@ -78,7 +76,7 @@ module _ (text : List ℕ) (r : Scope) (settled1 : IsSettled r) where
   fitting_never : (t : Option TreeEx) (c f : Fixed) (at : Pos) → accepted text r t c ≡ Some f → Never (IsFault (value_fault (type_asked text r t) at (Some (constant c))))
   fitting_never None c f at is g h = h
   fitting_never (Some e) c f at is g h =
-      let p = and_then_some (λ u. with_type u c) (type_in text r e) f is in
+      let p = and_then_some (λ u. with_type u c) (stated_type text r e) f is in
       let q = fits_type p.0 c f p.2 in
       let here = subst (λ (o : Option ValueType). IsFault (value_fault o at (Some (constant c))) g) p.1 h in
       subst (λ (b : Bool). IsFault (cond b None (Some (fault ConstRange at))) g) q.1
@@ -153,16 +151,16 @@ module _ (text : List ℕ) (r : Scope) (settled1 : IsSettled r) where
 
   left_never : (t : Option TreeEx) (es : TreeExs) → VariableTypesAre text r t es → Never (LeftOut text r t (seen text r es))
   left_never None es are = owns_never es are
-  left_never (Some e) es are = plain_never (type_in text r e) are.0 (first_pos e) are.1 are.2
+  left_never (Some e) es are = plain_never (stated_type text r e) are.0 (first_pos e) are.1 are.2
 
-  variable_type_never : (t : Option TreeEx) (es : TreeExs) → VariableTypesAre text r t es → Never (TypeFails text r t)
+  variable_type_never : (t : Option TreeEx) (es : TreeExs) → VariableTypesAre text r t es → Never (FailsBefore text r t)
   variable_type_never None es are f h = h
   variable_type_never (Some e) es are f h = type_never e are.0 are.1 f h
 
   -- values that are taken
-  types_known : (t : Option TreeEx) (es : TreeExs) → VariableTypesAre text r t es → (e : TreeEx) → t ≡ Some e → is_some (type_in text r e) ≡ true
+  types_known : (t : Option TreeEx) (es : TreeExs) → VariableTypesAre text r t es → (e : TreeEx) → t ≡ Some e → is_some (stated_type text r e) ≡ true
   types_known None es are e is = absurd (none_some is)
-  types_known (Some u) es are e is = subst (λ (x : TreeEx). is_some (type_in text r x) ≡ true) (same_some is) (ap is_some are.1)
+  types_known (Some u) es are e is = subst (λ (x : TreeEx). is_some (stated_type text r x) ≡ true) (same_some is) (ap is_some are.1)
 
   taken_never : (v : ValueSpec) (own : Fault) → VariableTypesAre text r v.type_expr v.values → InitialsAre text r v → Never (λ f. FailsInEach text r v.values f ⊎ TakeFails own (spec_wanted text r v) (seen text r v.values) f)
   taken_never v own typed are =

@@ -26,7 +26,7 @@ use Rattle.names.specs.declared.scope.Known.{Known}
 use Rattle.names.specs.declared.scope.Known.TheVariants as known_as
 use Rattle.names.specs.Scope.{Scope, declaration}
 use Rattle.names.specs.Naming.{name_in}
-use Rattle.names.specs.Types.{array_type as array_of, type_in, declared_type}
+use Rattle.names.specs.Types.{array_type as array_of, declared_type}
 use Rattle.operand_parts.specs.Parts.{selected, indexed}
 use Rattle.operand_parts.specs.ArrayTypes.{length_of, array_with}
 use Rattle.operand_parts.specs.Literals.{elided, type_elided}
@@ -40,8 +40,8 @@ use Rattle.package_values.specs.Passing.{each_given, all_given}
 use Rattle.package_values.proofs.Growth.{known, set_known, set_others, set_many}
 use Rattle.package_values.proofs.Holding.{holding}
 use Rattle.package_values.proofs.Literals.{AllPlaced, literal_typed, literal_placed}
-use Rattle.package_values.proofs.Giving.{give, type_same, no_value_call, AllGive, call_gives, many_give}
-use Rattle.package_values.proofs.Same.{NameSame, AllSame, all_right, gives_same, seen_same}
+use Rattle.package_values.proofs.Giving.{give, no_value_call, AllGive, call_gives, many_give}
+use Rattle.package_values.proofs.Same.{NameSame, AllSame, all_left, all_right, gives_same, stated_same, seen_same}
 use Rattle.package_values.proofs.Least.{set_has, settled_is_least}
 
 -- ---- what gives something has operands that give something
@@ -221,17 +221,12 @@ module _ (text : List ℕ) (s : Scope) where
       seen_known tree.none all = tt
       seen_known (some e es) all = known_append cs (names_in e) (names_in_each es) (gives_known e all.0.0 all.0.1) (seen_known es all.1)
 
-    type_known : (e : TreeEx) (t : ValueType) → type_in text (holding s cs) e ≡ Some t → AllKnown cs (names_in e)
-    type_known (name n) t h = (type_name_known s.types (declaration s (spelled text n)) t h, tt)
-    type_known (paren at e) t h = type_known e t h
-    type_known e t h = absurd (none_some h)
-
     operand_names : (e : TreeEx) (x : Operand) → operand_in (gives text (holding s cs) e) ≡ Some x → AllKnown cs (names_in e)
     operand_names e = by_operand e (gives_known e)
 
     accepted_known : (t : Option TreeEx) (c f : Fixed) → accepted text (holding s cs) t c ≡ Some f → AllKnown cs (names_in_some t)
     accepted_known None c f h = tt
-    accepted_known (Some e) c f h = let p = and_then_some (λ t. with_type t c) (type_in text (holding s cs) e) f h in type_known e p.0 p.1
+    accepted_known (Some e) c f h = let p = and_then_some (λ t. with_type t c) (stated_type text (holding s cs) e) f h in stated_known e p.0 p.1
 
     constant_known : (t v : Option TreeEx) (es : TreeExs) (f : Fixed) → given_by text (holding s cs) t v ≡ Some f → AllKnown cs (names_in_some t ++ names_waited v es)
     constant_known t None es f h = absurd (none_some h)
@@ -241,7 +236,7 @@ module _ (text : List ℕ) (s : Scope) where
         known_append cs (names_in_some t) (names_in e) (accepted_known t p.0 f p.2) (operand_names e q.0 q.1)
 
     variable_known : (t v : Option TreeEx) (es : TreeExs) (n k : ℕ) (u : ValueType) → variable_type text (holding s cs) t v es n k ≡ Some u → AllKnown cs (variable_mentions t v es)
-    variable_known (Some e) v es n k u h = type_known e u h
+    variable_known (Some e) v es n k u h = stated_known e u h
     variable_known None (Some e) es n k u h =
         let p = and_then_some (λ x. option_and_then (λ y. type_of x) (as_value x)) (operand_in (gives text (holding s cs) e)) u h in operand_names e p.0 p.1
     variable_known None None es n k u h =
@@ -258,22 +253,22 @@ module _ (text : List ℕ) (s : Scope) where
   -- ---- where all that it names is the same, it gives the same
 
   module _ (cs ds : List (Option Known)) where
-    accepted_as : (t : Option TreeEx) (c : Fixed) → accepted text (holding s cs) t c ≡ accepted text (holding s ds) t c
-    accepted_as None c = refl
-    accepted_as (Some e) c = ap (option_and_then (λ t. with_type t c)) (type_same text s cs ds e)
+    accepted_as : (t : Option TreeEx) (c : Fixed) → AllSame text s cs ds (names_in_some t) → accepted text (holding s cs) t c ≡ accepted text (holding s ds) t c
+    accepted_as None c all = refl
+    accepted_as (Some e) c all = ap (option_and_then (λ t. with_type t c)) (stated_same text s cs ds e all)
 
-    accepted_all : (t : Option TreeEx) (o : Option Fixed) → option_and_then (accepted text (holding s cs) t) o ≡ option_and_then (accepted text (holding s ds) t) o
-    accepted_all t None = refl
-    accepted_all t (Some c) = accepted_as t c
+    accepted_all : (t : Option TreeEx) (o : Option Fixed) → AllSame text s cs ds (names_in_some t) → option_and_then (accepted text (holding s cs) t) o ≡ option_and_then (accepted text (holding s ds) t) o
+    accepted_all t None all = refl
+    accepted_all t (Some c) all = accepted_as t c all
 
     constant_same : (t v : Option TreeEx) (es : TreeExs) → AllSame text s cs ds (names_in_some t ++ names_waited v es) → given_by text (holding s cs) t v ≡ given_by text (holding s ds) t v
     constant_same t None es all = refl
     constant_same t (Some e) es all =
         ap (λ (o : Option Gives). option_and_then (accepted text (holding s cs) t) (constant_in o)) (gives_same text s cs ds e (all_right text s cs ds (names_in_some t) (names_in e) all))
-        ∙ accepted_all t (constant_in (gives text (holding s ds) e))
+        ∙ accepted_all t (constant_in (gives text (holding s ds) e)) (all_left text s cs ds (names_in_some t) (names_in e) all)
 
     variable_same : (t v : Option TreeEx) (es : TreeExs) (n k : ℕ) → AllSame text s cs ds (variable_mentions t v es) → variable_type text (holding s cs) t v es n k ≡ variable_type text (holding s ds) t v es n k
-    variable_same (Some e) v es n k all = type_same text s cs ds e
+    variable_same (Some e) v es n k all = stated_same text s cs ds e all
     variable_same None (Some e) es n k all = ap own_type (gives_same text s cs ds e all)
     variable_same None None es n k all = ap (λ (os : List Seen). option_and_then (λ m. allowed (length m.types == n) (slice_get m.types k)) (many os)) (seen_same text s cs ds es all)
 

@@ -20,7 +20,6 @@ use Rattle.names.specs.declared.scope.Declared.TheVariants as declared
 use Rattle.names.specs.declared.scope.Known.{Known}
 use Rattle.names.specs.Scope.{Scope, declaration}
 use Rattle.names.specs.Naming.{name_in}
-use Rattle.names.specs.Faults.{FailsAsType}
 use Rattle.operand_parts.specs.Parts.{selected, indexed}
 use Rattle.operand_parts.specs.PartFaults.{selector_fault, index_fault}
 use Rattle.operand_parts.specs.ArrayTypes.{length_of, array_with, length_fault, array_fault}
@@ -136,7 +135,7 @@ module _ (text : List ℕ) (s : Scope) (cs ds : List (Option Known)) where
         ∙ literal_gives_same (stated_type text (holding s ds) e) es (placed_same es (stated_type text (holding s ds) e) 0 (all_right (names_in e) (names_in_elements es) all))
     gives_same (elements at es) all = refl
 
-    stated_same : (e : TreeEx) → AllSame (names_in e) → stated_type text (holding s cs) e ≡ stated_type text (holding s ds) e
+    pub stated_same : (e : TreeEx) → AllSame (names_in e) → stated_type text (holding s cs) e ≡ stated_type text (holding s ds) e
     stated_same (name n) all = refl
     stated_same (paren at e) all = stated_same e all
     stated_same (array_type at len e) all =
@@ -161,11 +160,6 @@ module _ (text : List ℕ) (s : Scope) (cs ds : List (Option Known)) where
         ∙ ap (λ (os : List Seen). record { at = first_pos e; gives = gives text (holding s ds) e } ∷ os) (seen_same es (all_right (names_in e) (names_in_each es) all))
 
   -- ---- which rules fail
-
-  pub type_fails_back : (e : TreeEx) (f : Fault) → FailsAsType text (holding s ds) e f → FailsAsType text (holding s cs) e f
-  type_fails_back (name n) f h = h
-  type_fails_back (paren at e) f h = type_fails_back e f h
-  type_fails_back e f h = h
 
   abbrev OperandFails : List (Option Known) → TreeEx → Fault → Type 0
   OperandFails xs e f = Fails text (holding s xs) e f ⊎ IsFault (single_fault (gives text (holding s xs) e)) f
@@ -279,7 +273,7 @@ module _ (text : List ℕ) (s : Scope) (cs ds : List (Option Known)) where
         either (stated_back e f left) (stated_literal_back e es f (stated_same e left) (literal_back (first_pos e) t es f (placed_same es t 0 right) (elements_back es t f right))) h
     fails_back (elements at es) f all h = h
 
-    stated_back : (e : TreeEx) (f : Fault) → AllSame (names_in e) → StatedFails text (holding s ds) e f → StatedFails text (holding s cs) e f
+    pub stated_back : (e : TreeEx) (f : Fault) → AllSame (names_in e) → StatedFails text (holding s ds) e f → StatedFails text (holding s cs) e f
     stated_back (name n) f all h = h
     stated_back (paren at e) f all h = stated_back e f all h
     stated_back (array_type at len e) f all h =

@@ -12,8 +12,7 @@ use Rattle.names.specs.declared.scope.Known.{Known}
 use Rattle.names.specs.declared.scope.Known.TheVariants as known_as
 use Rattle.names.specs.Universe.{is_blank}
 use Rattle.names.specs.Scope.{Scope, declaration, known}
-use Rattle.names.specs.Types.{type_in}
-use Rattle.expression_types.specs.Typing.{own_type, taken, spec_wanted, gives, seen}
+use Rattle.expression_types.specs.Typing.{own_type, taken, spec_wanted, gives, stated_type, seen}
 use Rattle.package_values.specs.declared.items.Role.{Role}
 use Rattle.package_values.specs.declared.items.Role.TheVariants as role
 use Rattle.package_values.specs.Values.{Item, items_in, is_variable_type, given_by, variable_type}
@@ -25,7 +24,7 @@ module _ (text : List ℕ) (s : Scope) where
 
   abbrev pub TypeIs : Option TreeEx → Type 0
   TypeIs None = Unit {0}
-  TypeIs (Some e) = (t : ValueType) × (type_in text s e ≡ Some t)
+  TypeIs (Some e) = (t : ValueType) × (stated_type text s e ≡ Some t)
 
   -- each value gives a constant; a type that stands before them holds it
   abbrev pub ConstantValuesAre : Option TreeEx → TreeExs → Type 0
@@ -52,7 +51,7 @@ module _ (text : List ℕ) (s : Scope) where
   -- the type that stands there, or else those of the values: one whose variables have rules
   abbrev pub VariableTypesAre : Option TreeEx → TreeExs → Type 0
   VariableTypesAre None es = OwnTypesAre es
-  VariableTypesAre (Some e) es = (t : ValueType) × (type_in text s e ≡ Some t) × (is_variable_type t ≡ true)
+  VariableTypesAre (Some e) es = (t : ValueType) × (stated_type text s e ≡ Some t) × (is_variable_type t ≡ true)
 
   -- values of the form of constants, as many as names, each assignable to the type that stands there
   pub record InitialsAre (v : ValueSpec) : Type 0 where

@@ -1,6 +1,7 @@
 -- Which rules fail in the declarations of constants and variables of a package, and where each is reported. They are looked at where what can be
 -- known of them is known.
 use Rattle.std.specs.Prelude.{◌≡◌, ◌⊎◌, ℕ, suc, ◌==◌, length, Bool, true, false, List, [], ◌∷◌, codes, slice_get, Option, Some, None, if◌then◌else◌}
+use Rattle.std.specs.Option.{option_map}
 use Rattle.std.specs.Str.{bytes_eq}
 use Rattle.base.specs.declared.pos.Pos.{Pos}
 use Rattle.syntax.specs.declared.expression.Name.{Name}
@@ -18,10 +19,8 @@ use Rattle.names.specs.declared.scope.Declared.{Declared}
 use Rattle.names.specs.declared.scope.Declared.TheVariants.{Constant, Global}
 use Rattle.names.specs.Universe.{is_blank}
 use Rattle.names.specs.Scope.{Scope, declaration}
-use Rattle.names.specs.Types.{type_in}
-use Rattle.names.specs.Faults.{FailsAsType}
-use Rattle.expression_types.specs.Typing.{wanted_by, accepts_operand, operand_in, type_in_one, Seen, are_single, spec_wanted, seen}
-use Rattle.expression_types.specs.Faults.{SinglesFail, CountFails, TakeFails, FailsInEach}
+use Rattle.expression_types.specs.Typing.{wanted_by, accepts_operand, operand_in, type_in_one, Seen, are_single, spec_wanted, stated_type, seen}
+use Rattle.expression_types.specs.Faults.{SinglesFail, CountFails, TakeFails, FailsInEach, FailsBefore}
 use Rattle.package_values.specs.declared.items.Role.{Role}
 use Rattle.package_values.specs.declared.items.Role.TheVariants as role
 use Rattle.package_values.specs.Values.{Item, items_in, is_variable_type}
@@ -70,6 +69,11 @@ abbrev pub ValuesLeftOut : List Seen → Fault → Type 0
 ValuesLeftOut [] f = ⊥
 ValuesLeftOut (o ∷ os) f = IsFault (left_out_fault (type_in_one o.gives) o.at) f ⊎ ValuesLeftOut os f
 
+-- variables of such a type: at the type that stands there, or at a value without one
+abbrev pub LeftOutBefore : Option TreeEx → Option ValueType → List Seen → Fault → Type 0
+LeftOutBefore None t os f = ValuesLeftOut os f
+LeftOutBefore (Some e) t os f = IsFault (left_out_fault t (first_pos e)) f
+
 -- a variable with a type begins with its zero value where no values stand there
 abbrev pub is_bare : Option TreeEx → TreeExs → Bool
 is_bare (Some t) none = true
@@ -84,20 +88,20 @@ abbrev pub cycle_place : Role → Name → List Name → Pos
 cycle_place role.Constant n ns = n.pos
 cycle_place role.Variable n ns = first_of n.pos ns
 
+-- the type that stands before the names of a declaration, where one is known
+abbrev pub asked_before : Option (Option ValueType) → Option ValueType
+asked_before None = None
+asked_before (Some t) = t
+
 module _ (text : List ℕ) (s : Scope) where
   -- the type that a declaration has, where it is known
   abbrev pub type_asked : Option TreeEx → Option ValueType
-  type_asked None = None
-  type_asked (Some e) = type_in text s e
-
-  abbrev pub TypeFails : Option TreeEx → Fault → Type 0
-  TypeFails None f = ⊥
-  TypeFails (Some e) f = FailsAsType text s e f
+  type_asked o = asked_before (option_map (stated_type text s) o)
 
   -- one declaration of a `const`, whose word stands at a place: its type, its values and their number
   abbrev pub SpecFails : Pos → ValueSpec → Fault → Type 0
   SpecFails pos v f =
-      (TypeFails v.type_expr f ⊎ (FailsInEach text s v.values f ⊎ SinglesFail (seen text s v.values) f))
+      (FailsBefore text s v.type_expr f ⊎ (FailsInEach text s v.values f ⊎ SinglesFail (seen text s v.values) f))
       ⊎ (ValuesFail (type_asked v.type_expr) (seen text s v.values) f ⊎ CountFails (single_count (seen text s v.values)) (length v.names) (fault WrongCount pos) f)
 
   abbrev pub SpecsFail : Pos → List ValueSpec → Fault → Type 0
@@ -113,15 +117,14 @@ module _ (text : List ℕ) (s : Scope) where
   InitialsFail true pos v f = ⊥
   InitialsFail false pos v f = TakeFails (fault WrongCount pos) (spec_wanted text s v) (seen text s v.values) f ⊎ FormsFail v.values f
 
-  -- variables of such a type: at the type that stands there, or at a value without one
+  -- variables of such a type
   abbrev pub LeftOut : Option TreeEx → List Seen → Fault → Type 0
-  LeftOut None os f = ValuesLeftOut os f
-  LeftOut (Some e) os f = IsFault (left_out_fault (type_in text s e) (first_pos e)) f
+  LeftOut o os f = LeftOutBefore o (type_asked o) os f
 
   -- one declaration of a `var`, whose word stands at a place: its type, its values, their number and their form
   abbrev pub VariablesFail : Pos → ValueSpec → Fault → Type 0
   VariablesFail pos v f =
-      ((TypeFails v.type_expr f ⊎ FailsInEach text s v.values f) ⊎ InitialsFail (is_bare v.type_expr v.values) pos v f) ⊎ LeftOut v.type_expr (seen text s v.values) f
+      ((FailsBefore text s v.type_expr f ⊎ FailsInEach text s v.values f) ⊎ InitialsFail (is_bare v.type_expr v.values) pos v f) ⊎ LeftOut v.type_expr (seen text s v.values) f
 
   abbrev pub AllVariablesFail : Pos → List ValueSpec → Fault → Type 0
   AllVariablesFail pos [] f = ⊥

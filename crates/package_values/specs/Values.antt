@@ -17,8 +17,7 @@ use Rattle.operators.specs.Operands.{Operand, constant, value, nil}
 use Rattle.names.specs.declared.scope.Known.{Known}
 use Rattle.names.specs.declared.scope.Known.TheVariants as known_as
 use Rattle.names.specs.Scope.{Scope, with_known}
-use Rattle.names.specs.Types.{type_in}
-use Rattle.expression_types.specs.Typing.{Gives, operand_in, own_type, many, gives, seen}
+use Rattle.expression_types.specs.Typing.{Gives, operand_in, own_type, many, gives, stated_type, seen}
 use Rattle.package_values.specs.declared.items.Role.{Role}
 use Rattle.package_values.specs.declared.items.Role.TheVariants as role
 
@@ -89,10 +88,14 @@ constant_in o = option_and_then as_constant (operand_in o)
 abbrev pub with_type : ValueType → Fixed → Option Fixed
 with_type t f = allowed (same_type t (constant_type f.value_type f.value) && holds t f.value) (Some (record { value_type = Some t; value = f.value }))
 
+-- that of a declaration, by the type that stands before its names: there may be none, or none that is known
+abbrev pub accepted_before : Option (Option ValueType) → Fixed → Option Fixed
+accepted_before None f = Some f
+accepted_before (Some o) f = option_and_then (λ t. with_type t f) o
+
 module _ (text : List ℕ) where
   abbrev pub accepted : Scope → Option TreeEx → Fixed → Option Fixed
-  accepted s None f = Some f
-  accepted s (Some e) f = option_and_then (λ t. with_type t f) (type_in text s e)
+  accepted s o f = accepted_before (option_map (stated_type text s) o) f
 
   -- the value of a constant, as far as the constants are known in a scope
   abbrev pub given_by : Scope → Option TreeEx → Option TreeEx → Option Fixed
@@ -108,7 +111,7 @@ module _ (text : List ℕ) where
   -- the type of a variable, as far as the types of variables and the constants are known in a scope: a type that stands there holds whatever
   -- the value
   abbrev pub variable_type : Scope → Option TreeEx → Option TreeEx → TreeExs → (n k : ℕ) → Option ValueType
-  variable_type s (Some t) v es n k = type_in text s t
+  variable_type s (Some t) v es n k = stated_type text s t
   variable_type s None v es n k = initial_type s v es n k
 
   -- what is known of one of them then

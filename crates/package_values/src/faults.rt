@@ -10,10 +10,10 @@ ghost use Rattle.type_faults.specs.Least.{IsLeast};
 ghost use Rattle.type_faults.specs.Faults.{IsFault};
 ghost use Rattle.names.specs.Universe.{is_blank};
 ghost use Rattle.names.specs.Scope.{scope_of, declaration};
-ghost use Rattle.expression_types.specs.Typing.{operand_in, seen};
+ghost use Rattle.expression_types.specs.Typing.{operand_in, seen, stated_type};
 ghost use Rattle.expression_types.specs.Faults.{SinglesFail, CountFails, FailsInEach};
-ghost use Rattle.expression_types.specs.Passing.{gives_of, seens};
-ghost use Rattle.package_values.specs.ValueFaults.{single_count, fitting_value_fault, value_fault, ValuesFail, is_this_value, value_name_fault, type_asked, TypeFails, SpecFails, SpecsFail, form_fault, FormsFail, left_out_fault, ValuesLeftOut, LeftOut, is_bare, InitialsFail, VariablesFail, AllVariablesFail, first_of, cycle_place, DeclarationsFail, NamesFail, Recurs, ItemsFail};
+ghost use Rattle.expression_types.specs.Passing.{gives_of, seens, type_before};
+ghost use Rattle.package_values.specs.ValueFaults.{single_count, fitting_value_fault, value_fault, ValuesFail, is_this_value, value_name_fault, asked_before, SpecFails, SpecsFail, form_fault, FormsFail, left_out_fault, ValuesLeftOut, LeftOutBefore, is_bare, InitialsFail, VariablesFail, AllVariablesFail, first_of, cycle_place, DeclarationsFail, NamesFail, Recurs, ItemsFail};
 ghost use Rattle.package_values.specs.Passing.{item_views, DeclarationFails, recursion_fault, is_marked};
 
 use crate::items::{Item, Role, items_in};
@@ -22,30 +22,21 @@ use crate::values::{constant_in, is_variable_type};
 use base::{NoMemory, Pos, ValueType};
 use components::strong_components;
 use expression_types::{
-    agrees, are_single, check_list, count_fault, is_single, one_type, singles_fault, spec_wanted,
-    take_fault, wanted_by,
+    Stated, agrees, are_single, check_before, check_list, count_fault, fault_before, is_single,
+    one_type, singles_fault, spec_wanted, take_fault, wanted_by,
 };
-use names::{Declared, Scope, is_blank, spelled, type_fault, type_in};
+use names::{Declared, Scope, is_blank, spelled};
 use operators::held_fault;
 use std::alloc::Global;
 use syntax::{Decl, Expr, Name, ValueSpec};
 use type_faults::{Fault, FaultKind, lesser};
 
-/// The type that a declaration has, where it is known.
-fn type_asked(text: &[u8], scope: &Scope, type_expr: &Option<Expr>) -> Option<ValueType>
-    ensures { result ≡ type_asked text.now (scope_of scope.now) (ex_in type_expr.now) }
+/// The type that stands before the names of a declaration, where one is known.
+fn type_asked(stated: &Option<Stated>) -> Option<ValueType>
+    ensures { result ≡ asked_before (type_before stated.now) }
 {
-    match type_expr {
-        Some(e) => type_in(text, scope, e),
-        None => None,
-    }
-}
-
-fn type_expr_fault(text: &[u8], scope: &Scope, type_expr: &Option<Expr>) -> Option<Fault>
-    ensures { IsLeast (TypeFails text.now (scope_of scope.now) (ex_in type_expr.now)) result }
-{
-    match type_expr {
-        Some(e) => type_fault(text, scope, e),
+    match stated {
+        Some(stated) => stated.value_type,
         None => None,
     }
 }
@@ -103,15 +94,16 @@ fn spec_fault(
 ) -> Result<Option<Fault>, NoMemory>
     ensures { IfOk result (λ r. IsLeast (SpecFails text.now (scope_of scope.now) pos (value_spec_of spec.now)) r) }
 {
+    let stated = check_before(alloc, text, scope, &spec.type_expr)?;
     let listed = check_list(alloc, text, scope, &spec.values)?;
     let own = Fault {
         kind: FaultKind::WrongCount,
         pos,
     };
     let expressions = lesser(listed.fault, singles_fault(&listed.items));
-    let typed = lesser(type_expr_fault(text, scope, &spec.type_expr), expressions);
+    let typed = lesser(fault_before(&stated), expressions);
     let values = lesser(
-        values_fault(type_asked(text, scope, &spec.type_expr), &listed.items),
+        values_fault(type_asked(&stated), &listed.items),
         count_fault(single_count(&listed.items), spec.names.len(), own),
     );
     Ok(lesser(typed, values))
@@ -186,15 +178,14 @@ fn values_left_out(items: &[expression_types::Item]) -> Option<Fault>
 /// The fault of variables of such types: at the type that stands there, or at a value without one.
 #[tactic(auto, using(type_faults::proofs::Leasts::leaf))]
 fn left_out(
-    text: &[u8],
-    scope: &Scope,
     type_expr: &Option<Expr>,
+    value_type: Option<ValueType>,
     items: &[expression_types::Item],
 ) -> Option<Fault>
-    ensures { IsLeast (LeftOut text.now (scope_of scope.now) (ex_in type_expr.now) (seens items.now)) result }
+    ensures { IsLeast (LeftOutBefore (ex_in type_expr.now) value_type (seens items.now)) result }
 {
     match type_expr {
-        Some(e) => left_out_fault(type_in(text, scope, e), e.pos()),
+        Some(e) => left_out_fault(value_type, e.pos()),
         None => values_left_out(items),
     }
 }
@@ -216,9 +207,11 @@ fn initials_fault(
     scope: &Scope,
     pos: Pos,
     spec: &ValueSpec,
+    stated: &Option<Stated>,
     items: &[expression_types::Item],
 ) -> Result<Option<Fault>, NoMemory>
-    requires { seens items.now ≡ seen text.now (scope_of scope.now) (exs_of spec.now.values.items) }
+    requires types { type_before stated.now ≡ option_map (stated_type text.now (scope_of scope.now)) (ex_in spec.now.type_expr) }
+    requires values { seens items.now ≡ seen text.now (scope_of scope.now) (exs_of spec.now.values.items) }
     ensures { IfOk result (λ r. IsLeast (InitialsFail text.now (scope_of scope.now) (is_bare (ex_in spec.now.type_expr) (exs_of spec.now.values.items)) pos (value_spec_of spec.now)) r) }
 {
     if is_bare(&spec.type_expr, &spec.values) {
@@ -228,7 +221,7 @@ fn initials_fault(
         kind: FaultKind::WrongCount,
         pos,
     };
-    let wanted = spec_wanted(alloc, text, scope, spec)?;
+    let wanted = spec_wanted(alloc, stated, &spec.names)?;
     let taken = take_fault(own, &wanted, items);
     Ok(lesser(taken, forms_fault(text, scope, &spec.values)))
 }
@@ -243,10 +236,11 @@ fn variables_fault(
 ) -> Result<Option<Fault>, NoMemory>
     ensures { IfOk result (λ r. IsLeast (VariablesFail text.now (scope_of scope.now) pos (value_spec_of spec.now)) r) }
 {
+    let stated = check_before(alloc, text, scope, &spec.type_expr)?;
     let listed = check_list(alloc, text, scope, &spec.values)?;
-    let initials = initials_fault(alloc, text, scope, pos, spec, &listed.items)?;
-    let typed = lesser(type_expr_fault(text, scope, &spec.type_expr), listed.fault);
-    let others = left_out(text, scope, &spec.type_expr, &listed.items);
+    let initials = initials_fault(alloc, text, scope, pos, spec, &stated, &listed.items)?;
+    let typed = lesser(fault_before(&stated), listed.fault);
+    let others = left_out(&spec.type_expr, type_asked(&stated), &listed.items);
     Ok(lesser(lesser(typed, initials), others))
 }
 

@@ -2,15 +2,15 @@
 
 ghost use Rattle.std.specs.Prelude.{◌≡◌, IfOk, OnOk, ℕ, None, length, slice_get, option_and_then, ◌==◌};
 ghost use Rattle.std.specs.Option.{option_map};
-ghost use Rattle.syntax.specs.Expressions.{ex_in, exs_of};
+ghost use Rattle.syntax.specs.Expressions.{exs_of};
 ghost use Rattle.syntax.specs.Declarations.{declarations_of};
 ghost use Rattle.type_faults.specs.Given.{allowed};
 ghost use Rattle.components.specs.Components.{component_lists};
 ghost use Rattle.names.specs.Scope.{scope_of, known};
 ghost use Rattle.names.specs.declared.scope.Known.TheVariants.{Constant as ConstantKnown};
 ghost use Rattle.expression_types.specs.Typing.{many};
-ghost use Rattle.expression_types.specs.Passing.{gives_of, seens};
-ghost use Rattle.package_values.specs.Values.{constant_in, with_type, accepted, given_by, is_variable_type, known_variable, initial_type, variable_type, given, settled, items_in};
+ghost use Rattle.expression_types.specs.Passing.{gives_of, seens, type_before};
+ghost use Rattle.package_values.specs.Values.{constant_in, with_type, accepted_before, given_by, is_variable_type, known_variable, initial_type, variable_type, given, settled, items_in};
 ghost use Rattle.package_values.specs.Passing.{item_of, item_views, given_at, each_given, all_given};
 
 use crate::items::{Item, Role, items_in};
@@ -18,8 +18,10 @@ use crate::needs::mentioned;
 use base::{NoMemory, ValueType, same_type};
 use components::{Component, strong_components};
 use constants::{Fixed, constant_type, is_held};
-use expression_types::{Gives, check_expr, check_list, many_types, own_type};
-use names::{Known, Scope, ValueId, type_in};
+use expression_types::{
+    Gives, Stated, check_before, check_expr, check_list, check_stated, many_types, own_type,
+};
+use names::{Known, Scope, ValueId};
 use operators::Operand;
 use std::alloc::Global;
 use syntax::{Decl, Expr};
@@ -48,13 +50,13 @@ fn with_type(value_type: ValueType, fixed: Fixed) -> Option<Fixed>
     }
 }
 
-/// A constant of a declaration with a type or none.
-fn accepted(text: &[u8], scope: &Scope, type_expr: &Option<Expr>, fixed: Fixed) -> Option<Fixed>
-    ensures { result ≡ accepted text.now (scope_of scope.now) (ex_in type_expr.now) fixed }
+/// A constant of a declaration, by the type that stands before its names, if one does.
+fn accepted(stated: &Option<Stated>, fixed: Fixed) -> Option<Fixed>
+    ensures { result ≡ accepted_before (type_before stated.now) fixed }
 {
-    match type_expr {
+    match stated {
         None => Some(fixed),
-        Some(e) => match type_in(text, scope, e) {
+        Some(stated) => match stated.value_type {
             Some(value_type) => with_type(value_type, fixed),
             None => None,
         },
@@ -77,7 +79,10 @@ fn constant_value(
     let fixed = constant_in(&checked.gives);
     drop(checked);
     match fixed {
-        Some(fixed) => Ok(accepted(text, scope, item.type_expr, fixed)),
+        Some(fixed) => {
+            let stated = check_before(alloc, text, scope, item.type_expr)?;
+            Ok(accepted(&stated, fixed))
+        }
         None => Ok(None),
     }
 }
@@ -162,7 +167,7 @@ fn variable_type(
     ensures { IfOk result (λ r. r ≡ variable_type text.now (scope_of scope.now) (item_of item.now).type_expr (item_of item.now).value (item_of item.now).values (length (item_of item.now).names) (item_of item.now).place) }
 {
     match item.type_expr {
-        Some(e) => Ok(type_in(text, scope, e)),
+        Some(e) => Ok(check_stated(alloc, text, scope, e)?.value_type),
         None => initial_type(alloc, text, scope, item),
     }
 }

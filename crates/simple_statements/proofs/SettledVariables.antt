@@ -16,26 +16,25 @@ use Rattle.type_faults.specs.Faults.{fault}
 use Rattle.type_faults.proofs.Decided.{Decided, Tested, further, mapped, after}
 use Rattle.type_faults.proofs.Options.{and_then_some, map_some}
 use Rattle.names.specs.Scope.{Scope}
-use Rattle.names.specs.Types.{type_in}
-use Rattle.names.proofs.Settled.{IsSettled, type_decided}
-use Rattle.expression_types.specs.Typing.{taken, declared_wanted, spec_wanted, seen}
-use Rattle.expression_types.specs.Faults.{FailsInEach}
+use Rattle.names.proofs.Settled.{IsSettled}
+use Rattle.expression_types.specs.Typing.{taken, declared_wanted, spec_wanted, stated_type, seen}
+use Rattle.expression_types.specs.Faults.{FailsInEach, FailsBefore}
 use Rattle.expression_types.proofs.DecidedValues.{take_decided}
-use Rattle.expression_types.proofs.Settled.{seen_decided}
+use Rattle.expression_types.proofs.Settled.{seen_decided, stated_decided}
 use Rattle.expression_types.proofs.Places.{AllAsk, spec_asks}
 use Rattle.signatures.specs.declared.entries.Role.TheVariants.{Parameter}
 use Rattle.signatures.specs.Entries.{sites_of, entry_left, slot_with, slots_each}
 use Rattle.signatures.specs.EntryFaults.{EntriesFail}
 use Rattle.signatures.proofs.SettledEntries.{some_tested, settled_entries, AllTyped, with_typed, each_typed, entries_decided}
 use Rattle.simple_statements.specs.SimpleStatements.{assignment, is_bare, spec_slots_of, spec_slots, behind_spec, spec_entries, is_known, spec_declared, spec_assigned, spec_statement, spec_statements, behind_specs, taken_types}
-use Rattle.simple_statements.specs.SimpleFaults.{SpecTypeFails, SpecTakeFails, SpecValuesFail, FailsInSpec, FailsInSpecs}
+use Rattle.simple_statements.specs.SimpleFaults.{SpecTakeFails, SpecValuesFail, FailsInSpec, FailsInSpecs}
 use Rattle.simple_statements.proofs.SettledValues.{allowed_is, taken_types_are}
 use Rattle.simple_statements.proofs.SettledSimple.{assignment_some}
 
 module _ (text : List ℕ) where
-  known_tested : (s : Scope) (o : Option TreeEx) → IsSettled s → Tested (is_known text s o) (SpecTypeFails text s o)
+  known_tested : (s : Scope) (o : Option TreeEx) → IsSettled s → Tested (is_known text s o) (FailsBefore text s o)
   known_tested s None settled = λ f h. h
-  known_tested s (Some e) settled = some_tested (type_in text s e) (SpecTypeFails text s (Some e)) (type_decided text s settled e)
+  known_tested s (Some e) settled = some_tested (stated_type text s e) (FailsBefore text s (Some e)) (stated_decided text s settled e)
 
   taking_decided : (es : Option (List Left)) (v : Option Exs) (V E : Fault → Type 0) → Decided v V → Decided es E → Decided (assignment es v) (λ f. V f ⊎ E f)
   taking_decided None None V E p q = (p.0, inl p.1)
@@ -64,14 +63,14 @@ module _ (text : List ℕ) where
 
   spec_decided : (s : Scope) (at : Pos) (v : ValueSpec) → IsSettled s → Decided (spec_statement text s v) (FailsInSpec text s at v)
   spec_decided s at v settled =
-      where_known (SpecTypeFails text s v.type_expr) (λ f. SpecValuesFail text (is_bare v.type_expr v.values) s at v f ⊎ EntriesFail text Parameter s (spec_slots text s v) f) (is_known text s v.type_expr)
+      where_known (FailsBefore text s v.type_expr) (λ f. SpecValuesFail text (is_bare v.type_expr v.values) s at v f ⊎ EntriesFail text Parameter s (spec_slots text s v) f) (is_known text s v.type_expr)
       (cond (is_bare v.type_expr v.values) (spec_declared text s v) (spec_assigned text s v)) (known_tested s v.type_expr settled) (λ known. names_decided s at v settled known (is_bare v.type_expr v.values))
 
   -- where a declaration is typed, so are its names
   names_typed : (s : Scope) (v : ValueSpec) (t : St) (o : Option TreeEx) → v.type_expr ≡ o → is_known text s o ≡ true → cond (is_bare o v.values) (spec_declared text s v) (spec_assigned text s v) ≡ Some t → AllTyped (spec_slots text s v)
-  names_typed s v t (Some e) o_is known is = by (type_in text s e) refl known
+  names_typed s v t (Some e) o_is known is = by (stated_type text s e) refl known
     where
-      by : (u : Option ValueType) → type_in text s e ≡ u → is_some u ≡ true → AllTyped (spec_slots text s v)
+      by : (u : Option ValueType) → stated_type text s e ≡ u → is_some u ≡ true → AllTyped (spec_slots text s v)
       by None u_is known1 = cc known1
       by (Some u) u_is known1 =
           subst (λ (o : Option TreeEx). AllTyped (spec_slots_of text s o (taken_types (spec_wanted text s v) (seen text s v.values)) v.names)) (sym o_is)

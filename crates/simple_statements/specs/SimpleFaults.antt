@@ -22,9 +22,8 @@ use Rattle.names.specs.declared.scope.Declared.TheVariants as declared
 use Rattle.names.specs.Universe.{is_blank}
 use Rattle.names.specs.Scope.{Scope, declaration, is_here}
 use Rattle.names.specs.Naming.{name_in}
-use Rattle.names.specs.Faults.{FailsAsType}
 use Rattle.expression_types.specs.Typing.{Gives, one, called, asking, quoted, printed, panicked, exited, operand_in, Seen, many, count, spec_wanted, gives, seen}
-use Rattle.expression_types.specs.Faults.{refused_fault, ValuesFail, PlacedFail, CountFails, TakeFails, Fails, FailsInEach, FailsAsOperand}
+use Rattle.expression_types.specs.Faults.{refused_fault, ValuesFail, PlacedFail, CountFails, TakeFails, Fails, FailsInEach, FailsAsOperand, FailsBefore}
 use Rattle.signatures.specs.declared.entries.Role.TheVariants.{Parameter}
 use Rattle.signatures.specs.EntryFaults.{EntriesFail}
 use Rattle.signatures.specs.Failing.{fault_where}
@@ -169,10 +168,6 @@ module _ (text : List ℕ) where
 
   -- ---- a `var` among statements, whose word stands at a place
 
-  abbrev pub SpecTypeFails : Scope → Option TreeEx → Fault → Type 0
-  SpecTypeFails s None f = ⊥
-  SpecTypeFails s (Some e) f = FailsAsType text s e f
-
   abbrev pub SpecTakeFails : Scope → Pos → ValueSpec → Fault → Type 0
   SpecTakeFails s pos v f = FailsInEach text s v.values f ⊎ TakeFails (fault WrongCount pos) (spec_wanted text s v) (seen text s v.values) f
 
@@ -181,7 +176,7 @@ module _ (text : List ℕ) where
   SpecValuesFail false s pos v f = SpecTakeFails s pos v f
 
   abbrev pub FailsInSpec : Scope → Pos → ValueSpec → Fault → Type 0
-  FailsInSpec s pos v f = SpecTypeFails s v.type_expr f ⊎ (SpecValuesFail (is_bare v.type_expr v.values) s pos v f ⊎ EntriesFail text Parameter s (spec_slots text s v) f)
+  FailsInSpec s pos v f = FailsBefore text s v.type_expr f ⊎ (SpecValuesFail (is_bare v.type_expr v.values) s pos v f ⊎ EntriesFail text Parameter s (spec_slots text s v) f)
 
   abbrev pub FailsInSpecs : Scope → Pos → List ValueSpec → Fault → Type 0
   FailsInSpecs s pos [] f = ⊥

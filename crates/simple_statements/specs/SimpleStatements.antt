@@ -24,10 +24,9 @@ use Rattle.names.specs.Blocks.{Blocks, innermost, insert}
 use Rattle.names.specs.Universe.{is_blank}
 use Rattle.names.specs.Scope.{Scope, is_here, with_variable, with_strings}
 use Rattle.names.specs.Naming.{name_in}
-use Rattle.names.specs.Types.{type_in}
 use Rattle.expression_types.specs.declared.wants.Wanted.{Wanted}
 use Rattle.expression_types.specs.declared.wants.Wanted.TheVariants as wants
-use Rattle.expression_types.specs.Typing.{Part, said, valued, Gives, one, called, asking, quoted, printed, panicked, exited, operand_in, Seen, wanted_by, value_types, taken, spec_wanted, gives, seen}
+use Rattle.expression_types.specs.Typing.{Part, said, valued, Gives, one, called, asking, quoted, printed, panicked, exited, operand_in, Seen, wanted_by, value_types, taken, spec_wanted, gives, stated_type, seen}
 use Rattle.signatures.specs.declared.slots.Slot.{Slot}
 use Rattle.signatures.specs.declared.entries.Role.TheVariants.{Parameter}
 use Rattle.signatures.specs.Entries.{sites_of, entry_left, slot_with, slots_each, entries, behind_entries}
@@ -149,6 +148,16 @@ abbrev pub returned : Returns → List Seen → Option St
 returned r [] = if r.may_be_bare then Some (return_stmt none) else None
 returned r (o ∷ os) = option_map return_stmt (taken r.wanted (o ∷ os))
 
+-- the names of a declaration: a type that stands before them holds for all, or else each has that of its value
+abbrev pub slots_before : Option (Option ValueType) → Option (List ValueType) → List Name → List Slot
+slots_before None ts ns = slots_each ts ns
+slots_before (Some t) ts ns = map (slot_with t) ns
+
+-- whether what stands before them is a type, if anything does
+abbrev pub is_known_before : Option (Option ValueType) → Bool
+is_known_before None = true
+is_known_before (Some t) = is_some t
+
 -- a declaration with a type and no values
 abbrev pub is_bare : Option TreeEx → TreeExs → Bool
 is_bare None es = false
@@ -262,10 +271,8 @@ module _ (text : List ℕ) where
 
   -- ---- a `var` among statements: the values are worked out before the names are declared
 
-  -- a type that stands there holds for all names
   abbrev pub spec_slots_of : Scope → Option TreeEx → Option (List ValueType) → List Name → List Slot
-  spec_slots_of s None ts ns = slots_each ts ns
-  spec_slots_of s (Some e) ts ns = map (slot_with (type_in text s e)) ns
+  spec_slots_of s o ts ns = slots_before (option_map (stated_type text s) o) ts ns
 
   abbrev pub spec_slots : Scope → ValueSpec → List Slot
   spec_slots s v = spec_slots_of s v.type_expr (taken_types (spec_wanted text s v) (seen text s v.values)) v.names
@@ -277,8 +284,7 @@ module _ (text : List ℕ) where
   spec_entries s v = entries text Parameter s (spec_slots s v)
 
   abbrev pub is_known : Scope → Option TreeEx → Bool
-  is_known s None = true
-  is_known s (Some e) = is_some (type_in text s e)
+  is_known s o = is_known_before (option_map (stated_type text s) o)
 
   abbrev pub spec_declared : Scope → ValueSpec → Option St
   spec_declared s v = option_map (λ es. declare (sites_of es)) (spec_entries s v)

@@ -9,21 +9,24 @@ ghost use Rattle.typed.specs.View.{exs_of_values, st_of, sts_of, site_in, left_o
 ghost use Rattle.type_faults.specs.Least.{IsLeast};
 ghost use Rattle.type_faults.specs.Given.{allowed};
 ghost use Rattle.names.specs.Scope.{scope_of};
-ghost use Rattle.expression_types.specs.Typing.{seen, taken, spec_wanted};
+ghost use Rattle.expression_types.specs.Typing.{seen, stated_type, taken, spec_wanted};
+ghost use Rattle.expression_types.specs.Passing.{type_before};
 ghost use Rattle.type_faults.specs.Given.{with_last};
 ghost use Rattle.signatures.specs.Entries.{sites_of, entry_left};
-ghost use Rattle.simple_statements.specs.SimpleStatements.{assignment, taken_types, is_bare, spec_slots_of, spec_slots, is_known, spec_declared, spec_assigned, spec_statement, spec_statements, behind_spec, behind_specs};
+ghost use Rattle.simple_statements.specs.SimpleStatements.{assignment, taken_types, is_bare, slots_before, spec_slots, is_known_before, spec_declared, spec_assigned, spec_statement, spec_statements, behind_spec, behind_specs};
 ghost use Rattle.signatures.specs.declared.entries.Role.TheVariants.{Parameter};
 ghost use Rattle.signatures.specs.EntryFaults.{EntriesFail};
-ghost use Rattle.simple_statements.specs.SimpleFaults.{SpecTypeFails, SpecTakeFails, SpecValuesFail, FailsInSpec, FailsInSpecs};
+ghost use Rattle.simple_statements.specs.SimpleFaults.{SpecTakeFails, SpecValuesFail, FailsInSpec, FailsInSpecs};
 
 use crate::statements::{Line, Lines, assignment, types_where};
 use base::{NoMemory, Pos, SiteId, ValueType};
-use expression_types::{check_list, spec_wanted, take_fault, taken, value_types};
-use names::{Scope, type_fault, type_in};
+use expression_types::{
+    Stated, check_before, check_list, fault_before, spec_wanted, take_fault, taken, value_types,
+};
+use names::Scope;
 use signatures::{Role, Slot, check_entries, entry_lefts, sites_of, slots_each, slots_with};
 use std::alloc::Global;
-use syntax::{Expr, ValueSpec};
+use syntax::{Expr, Name, ValueSpec};
 use type_faults::{Fault, FaultKind, lesser};
 use typed::Values;
 
@@ -35,15 +38,6 @@ struct Given {
     fault: Option<Fault>,
 }
 
-fn spec_type_fault(text: &[u8], scope: &Scope, type_expr: &Option<Expr>) -> Option<Fault>
-    ensures { IsLeast (SpecTypeFails text.now (scope_of scope.now) (ex_in type_expr.now)) result }
-{
-    match type_expr {
-        Some(e) => type_fault(text, scope, e),
-        None => None,
-    }
-}
-
 /// The values of a declaration.
 fn check_values(
     alloc: Global,
@@ -51,13 +45,15 @@ fn check_values(
     scope: &Scope,
     pos: Pos,
     spec: &ValueSpec,
+    stated: &Option<Stated>,
 ) -> Result<Given, NoMemory>
+    requires { type_before stated.now ≡ option_map (stated_type text.now (scope_of scope.now)) (ex_in spec.now.type_expr) }
     ensures values { IfOk result (λ g. option_map exs_of_values g.values ≡ taken (spec_wanted text.now (scope_of scope.now) (value_spec_of spec.now)) (seen text.now (scope_of scope.now) (trees_of spec.now.values.items))) }
     ensures types { IfOk result (λ g. option_map (λ v. v.items) g.types ≡ taken_types (spec_wanted text.now (scope_of scope.now) (value_spec_of spec.now)) (seen text.now (scope_of scope.now) (trees_of spec.now.values.items))) }
     ensures fault { IfOk result (λ g. IsLeast (SpecTakeFails text.now (scope_of scope.now) pos (value_spec_of spec.now)) g.fault) }
 {
     let listed = check_list(alloc, text, scope, &spec.values)?;
-    let wanted = spec_wanted(alloc, text, scope, spec)?;
+    let wanted = spec_wanted(alloc, stated, &spec.names)?;
     let own = Fault {
         kind: FaultKind::WrongCount,
         pos,
@@ -76,16 +72,15 @@ fn check_values(
 /// The names of a declaration with their types.
 fn spec_slots(
     alloc: Global,
-    text: &[u8],
-    scope: &Scope,
-    spec: &ValueSpec,
+    stated: &Option<Stated>,
+    names: &[Name],
     types: &Option<Vec<ValueType>>,
 ) -> Result<Vec<Slot>, NoMemory>
-    ensures { IfOk result (λ v. v.items ≡ spec_slots_of text.now (scope_of scope.now) (ex_in spec.now.type_expr) (option_map (λ t. t.items) types.now) spec.now.names.items) }
+    ensures { IfOk result (λ v. v.items ≡ slots_before (type_before stated.now) (option_map (λ t. t.items) types.now) names.now) }
 {
-    match &spec.type_expr {
-        Some(e) => slots_with(alloc, &spec.names, type_in(text, scope, e)),
-        None => slots_each(alloc, &spec.names, types),
+    match stated {
+        Some(stated) => slots_with(alloc, names, stated.value_type),
+        None => slots_each(alloc, names, types),
     }
 }
 
@@ -103,11 +98,11 @@ fn declared(
 }
 
 /// Whether the type of a declaration is known, where it stands there.
-fn is_known(text: &[u8], scope: &Scope, type_expr: &Option<Expr>) -> bool
-    ensures { result ≡ is_known text.now (scope_of scope.now) (ex_in type_expr.now) }
+fn is_known(stated: &Option<Stated>) -> bool
+    ensures { result ≡ is_known_before (type_before stated.now) }
 {
-    match type_expr {
-        Some(e) => type_in(text, scope, e).is_some(),
+    match stated {
+        Some(stated) => stated.value_type.is_some(),
         None => true,
     }
 }
@@ -140,13 +135,15 @@ fn check_bare(
     text: &[u8],
     scope: &mut Scope,
     spec: &ValueSpec,
+    stated: &Option<Stated>,
 ) -> Result<Line, NoMemory>
-    requires { is_bare (ex_in spec.now.type_expr) (trees_of spec.now.values.items) ≡ true }
+    requires types { type_before stated.now ≡ option_map (stated_type text.now (scope_of scope.old)) (ex_in spec.now.type_expr) }
+    requires bare { is_bare (ex_in spec.now.type_expr) (trees_of spec.now.values.items) ≡ true }
     ensures statement { IfOk result (λ c. option_map st_of c.statement ≡ spec_declared text.now (scope_of scope.old) (value_spec_of spec.now)) }
     ensures fault { IfOk result (λ c. IsLeast (EntriesFail text.now Parameter (scope_of scope.old) (spec_slots text.now (scope_of scope.old) (value_spec_of spec.now))) c.fault) }
     ensures scope { OnOk result (scope_of scope.new ≡ behind_spec text.now (scope_of scope.old) (value_spec_of spec.now)) }
 {
-    let slots = spec_slots(alloc, text, scope, spec, &None)?;
+    let slots = spec_slots(alloc, stated, &spec.names, &None)?;
     let entries = check_entries(alloc, text, scope, Role::Parameter, &slots)?;
     Ok(Line {
         statement: declared(alloc, &entries.entries)?,
@@ -161,13 +158,15 @@ fn check_given(
     scope: &mut Scope,
     pos: Pos,
     spec: &ValueSpec,
+    stated: &Option<Stated>,
 ) -> Result<Line, NoMemory>
+    requires types { type_before stated.now ≡ option_map (stated_type text.now (scope_of scope.old)) (ex_in spec.now.type_expr) }
     ensures statement { IfOk result (λ c. option_map st_of c.statement ≡ spec_assigned text.now (scope_of scope.old) (value_spec_of spec.now)) }
     ensures fault { IfOk result (λ c. IsLeast (λ f. SpecTakeFails text.now (scope_of scope.old) pos (value_spec_of spec.now) f ⊎ EntriesFail text.now Parameter (scope_of scope.old) (spec_slots text.now (scope_of scope.old) (value_spec_of spec.now)) f) c.fault) }
     ensures scope { OnOk result (scope_of scope.new ≡ behind_spec text.now (scope_of scope.old) (value_spec_of spec.now)) }
 {
-    let given = check_values(alloc, text, scope, pos, spec)?;
-    let slots = spec_slots(alloc, text, scope, spec, &given.types)?;
+    let given = check_values(alloc, text, scope, pos, spec, stated)?;
+    let slots = spec_slots(alloc, stated, &spec.names, &given.types)?;
     let entries = check_entries(alloc, text, scope, Role::Parameter, &slots)?;
     let lefts = entry_lefts(alloc, &entries.entries)?;
     Ok(Line {
@@ -183,15 +182,17 @@ fn check_names(
     scope: &mut Scope,
     pos: Pos,
     spec: &ValueSpec,
+    stated: &Option<Stated>,
 ) -> Result<Line, NoMemory>
+    requires types { type_before stated.now ≡ option_map (stated_type text.now (scope_of scope.old)) (ex_in spec.now.type_expr) }
     ensures statement { IfOk result (λ c. option_map st_of c.statement ≡ (if is_bare (ex_in spec.now.type_expr) (trees_of spec.now.values.items) then spec_declared text.now (scope_of scope.old) (value_spec_of spec.now) else spec_assigned text.now (scope_of scope.old) (value_spec_of spec.now))) }
     ensures fault { IfOk result (λ c. IsLeast (λ f. SpecValuesFail text.now (is_bare (ex_in spec.now.type_expr) (trees_of spec.now.values.items)) (scope_of scope.old) pos (value_spec_of spec.now) f ⊎ EntriesFail text.now Parameter (scope_of scope.old) (spec_slots text.now (scope_of scope.old) (value_spec_of spec.now)) f) c.fault) }
     ensures scope { OnOk result (scope_of scope.new ≡ behind_spec text.now (scope_of scope.old) (value_spec_of spec.now)) }
 {
     if is_bare(spec) {
-        check_bare(alloc, text, scope, spec)
+        check_bare(alloc, text, scope, spec, stated)
     } else {
-        check_given(alloc, text, scope, pos, spec)
+        check_given(alloc, text, scope, pos, spec, stated)
     }
 }
 
@@ -207,12 +208,11 @@ fn check_spec(
     ensures fault { IfOk result (λ c. IsLeast (FailsInSpec text.now (scope_of scope.old) pos (value_spec_of spec.now)) c.fault) }
     ensures scope { OnOk result (scope_of scope.new ≡ behind_spec text.now (scope_of scope.old) (value_spec_of spec.now)) }
 {
-    let known = is_known(text, scope, &spec.type_expr);
-    let type_fault = spec_type_fault(text, scope, &spec.type_expr);
-    let line = check_names(alloc, text, scope, pos, spec)?;
+    let stated = check_before(alloc, text, scope, &spec.type_expr)?;
+    let line = check_names(alloc, text, scope, pos, spec, &stated)?;
     Ok(Line {
-        statement: statement_where(known, line.statement),
-        fault: lesser(type_fault, line.fault),
+        statement: statement_where(is_known(&stated), line.statement),
+        fault: lesser(fault_before(&stated), line.fault),
     })
 }
 

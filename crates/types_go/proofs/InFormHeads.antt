@@ -20,11 +20,10 @@ use Rattle.typed.specs.Formed.{IsFormed}
 use Rattle.type_faults.proofs.Options.{and_then_some, map_some, none_some, same_some}
 use Rattle.operators.specs.Operands.{is_assignable, as_value}
 use Rattle.names.specs.Scope.{Scope, type_tree, type_trees, opened}
-use Rattle.names.specs.Types.{type_in}
 use Rattle.names.proofs.Trees.{int_tree}
 use Rattle.expression_types.specs.declared.wants.Wanted.{Wanted}
 use Rattle.expression_types.specs.declared.wants.Wanted.TheVariants as wants
-use Rattle.expression_types.specs.Typing.{operand_in, taken, value_types, wanted_by, declared_wanted, spec_wanted, gives, seen, condition, test}
+use Rattle.expression_types.specs.Typing.{operand_in, taken, value_types, wanted_by, stated_type, declared_wanted, spec_wanted, gives, seen, condition, test}
 use Rattle.types_go.proofs.SettledHeads.{number_is}
 use Rattle.expression_types.proofs.InForm.{Agrees, AreAccepted, OptionalFits, AllFit, assigned_type, value_fits, operand_fits, maybe_fits, taken_fits, gives_fit, seen_fit, condition_fits, test_fits}
 use Rattle.signatures.specs.declared.slots.Slot.{Slot}
@@ -409,12 +408,12 @@ module _ (T : Table) (text : List ℕ) (p : Program) (all : List Site) (has : Ha
         slots_are : (o : Option TreeEx) → v.type_expr ≡ o → spec_slots text s v ≡ spec_slots_of text s o (taken_types (spec_wanted text s v) (seen text s v.values)) v.names
         slots_are o o_is = ap (λ (k : Option TreeEx). spec_slots_of text s k (taken_types (spec_wanted text s v) (seen text s v.values)) v.names) o_is
 
-        of_type : (e : TreeEx) (u : ValueType) → v.type_expr ≡ Some e → type_in text s e ≡ Some u → SlotsHave (spec_slots text s v) (map (λ (n : Name). u) v.names)
+        of_type : (e : TreeEx) (u : ValueType) → v.type_expr ≡ Some e → stated_type text s e ≡ Some u → SlotsHave (spec_slots text s v) (map (λ (n : Name). u) v.names)
         of_type e u o_is u_is =
             subst (λ (ps : List Slot). SlotsHave ps (map (λ (n : Name). u) v.names)) (sym (slots_are (Some e) o_is))
             (subst (λ (w : Option ValueType). SlotsHave (map (slot_with w) v.names) (map (λ (n : Name). u) v.names)) (sym u_is) (with_have u v.names))
 
-        wanted_are : (e : TreeEx) (u : ValueType) → v.type_expr ≡ Some e → type_in text s e ≡ Some u → spec_wanted text s v ≡ map (λ (n : Name). wants.Typed u) v.names
+        wanted_are : (e : TreeEx) (u : ValueType) → v.type_expr ≡ Some e → stated_type text s e ≡ Some u → spec_wanted text s v ≡ map (λ (n : Name). wants.Typed u) v.names
         wanted_are e u o_is u_is = ap (λ (k : Option TreeEx). map (λ (n : Name). declared_wanted text s k) v.names) o_is ∙ ap (λ (w : Option ValueType). map (λ (n : Name). wanted_by w) v.names) u_is
 
         by : (o : Option TreeEx) → v.type_expr ≡ o → is_known text s o ≡ true → cond (is_bare o v.values) (spec_declared text s v) (spec_assigned text s v) ≡ Some t
@@ -423,9 +422,9 @@ module _ (T : Table) (text : List ℕ) (p : Program) (all : List Site) (has : Ha
             spec_assigned_formed looped v t ext0 ext
             (λ ts found accepted. subst (λ (ps : List Slot). SlotsHave ps ts) (sym (slots_are None o_is))
             (subst (λ (w : Option (List ValueType)). SlotsHave (slots_each w v.names) ts) (sym found) (each_have ts v.names (accepted_long (spec_wanted text s v) ts accepted ∙ length-map v.names (λ (n : Name). declared_wanted text s v.type_expr))))) is1
-        by (Some e) o_is known is1 = with_type (type_in text s e) refl known (is_bare (Some e) v.values) is1
+        by (Some e) o_is known is1 = with_type (stated_type text s e) refl known (is_bare (Some e) v.values) is1
           where
-            with_type : (u : Option ValueType) → type_in text s e ≡ u → is_some u ≡ true → (b : Bool) → cond b (spec_declared text s v) (spec_assigned text s v) ≡ Some t
+            with_type : (u : Option ValueType) → stated_type text s e ≡ u → is_some u ≡ true → (b : Bool) → cond b (spec_declared text s v) (spec_assigned text s v) ≡ Some t
                 → Formed1 looped s scope (behind_spec text s v) t × Visible (behind_spec text s v) (scope_after scope t)
             with_type None u_is known1 b is2 = absurd cc
             with_type (Some u) u_is known1 true is2 = spec_declared_formed looped v (map (λ (n : Name). u) v.names) t (of_type e u o_is u_is) ext is2
