@@ -11,6 +11,8 @@ mod array_types;
 #[cfg(test)]
 mod declarations;
 #[cfg(test)]
+mod declared_types;
+#[cfg(test)]
 mod literals;
 #[cfg(test)]
 mod parts;
