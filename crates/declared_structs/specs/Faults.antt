@@ -106,15 +106,21 @@ module _ (text : List ℕ) where
   FieldTypesFail s (x ∷ xs) f = StatedFails text s x.type_expr f ⊎ FieldTypesFail s xs f
 
   -- by the constants and the names of a scope
+  abbrev pub FieldSizeFails : Scope → List (Option ℕ) → Field → Fault → Type 0
+  FieldSizeFails s table x f = WhereNamed x.names (LevelFails table x.type_expr (prefixed text s x.type_expr)) f
+
   abbrev pub LevelsFail : Scope → List (Option ℕ) → List Field → Fault → Type 0
   LevelsFail s table [] f = ⊥
-  LevelsFail s table (x ∷ xs) f = WhereNamed x.names (LevelFails table x.type_expr (prefixed text s x.type_expr)) f ⊎ LevelsFail s table xs f
+  LevelsFail s table (x ∷ xs) f = FieldSizeFails s table x f ⊎ LevelsFail s table xs f
+
+  -- the fault of the name of the struct of a number
+  abbrev pub name_fault_in : Scope → ℕ → Name → Option Fault
+  name_fault_in s k n = struct_name_fault k (is_blank (spelled text n)) (bytes_eq (spelled text n) (codes "init")) (declaration s (spelled text n)) n.pos
 
   -- a rule of a struct by itself
   abbrev pub StructFails : Scope → ℕ → TypeSpec → Fault → Type 0
   StructFails s k t f =
-      IsFault (struct_name_fault k (is_blank (spelled text t.name)) (bytes_eq (spelled text t.name) (codes "init")) (declaration s (spelled text t.name)) t.name.pos) f
-      ⊎ (FieldNamesFail ([] ∷ []) (field_names t.fields) f ⊎ FieldTypesFail s t.fields f)
+      IsFault (name_fault_in s k t.name) f ⊎ (FieldNamesFail ([] ∷ []) (field_names t.fields) f ⊎ FieldTypesFail s t.fields f)
 
   -- of structs, from a number on
   abbrev pub StructsFail : Scope → ℕ → List TypeSpec → Fault → Type 0

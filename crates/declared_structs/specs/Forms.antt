@@ -35,12 +35,16 @@ abbrev pub array_of : ℕ → Prefixed → Prefixed
 array_of n t = record { prefixes = Array n ∷ t.prefixes; base = t.base }
 
 module _ (text : List ℕ) (s : Scope) where
+  -- the length of arrays that an expression is
+  abbrev pub length_in : TreeEx → Option ℕ
+  length_in e = option_and_then length_of (operand_in (gives text s e))
+
   -- the type that an expression states, by the constants and the names of a scope, whatever words it has: an array type whose length is known,
   -- or the name of a type
   abbrev pub prefixed : TreeEx → Option Prefixed
   prefixed (name n) = option_map plain (base_in (declaration s (spelled text n)))
   prefixed (paren at e) = prefixed e
-  prefixed (array_type at len e) = option_and_then (λ n. option_map (array_of n) (prefixed e)) (option_and_then length_of (operand_in (gives text s len)))
+  prefixed (array_type at len e) = option_and_then (λ n. option_map (array_of n) (prefixed e)) (length_in len)
   prefixed other = None
 
   -- a field for each name

@@ -1,16 +1,14 @@
 //! The structs of a program, by the types of their fields.
 
-ghost use Rattle.std.specs.Prelude.{◌≡◌, ◌++◌, ◌∷◌, [], List, IfOk, OnOk, map, option_and_then};
+ghost use Rattle.std.specs.Prelude.{◌≡◌, IfOk, OnOk};
 ghost use Rattle.std.specs.Option.{option_map};
 ghost use Rattle.syntax.specs.Expressions.{ex_of as tree_of};
-ghost use Rattle.syntax.specs.Declarations.{field_of, fields_of as tree_fields, type_spec_of, type_specs_of, declaration_of, declarations_of};
-ghost use Rattle.struct_sizes.specs.Structs.{prefixed_of, fields_of, structs_of};
+ghost use Rattle.syntax.specs.Declarations.{field_of, fields_of as tree_fields};
+ghost use Rattle.syntax.specs.Declarations.{type_specs_of, declarations_of};
+ghost use Rattle.struct_sizes.specs.Structs.{fields_of, structs_of};
 ghost use Rattle.names.specs.Scope.{scope_of};
-ghost use Rattle.operators.specs.Passing.{operand_of};
-ghost use Rattle.operand_parts.specs.ArrayTypes.{length_of};
-ghost use Rattle.expression_types.specs.Typing.{operand_in, gives};
-ghost use Rattle.declared_structs.specs.Forms.{base_of, base_in, prefixed, field_types, struct_types, specs_structs, structs_in};
-ghost use Rattle.declared_structs.specs.Passing.{behind, views};
+ghost use Rattle.declared_structs.specs.Forms.{base_of, base_in, length_in, prefixed, struct_types, structs_in};
+ghost use Rattle.declared_structs.specs.Passing.{view, views, prefixed_after, with_names, with_field, with_specs};
 
 use base::{NoMemory, ValueType};
 use expression_types::check_single;
@@ -43,7 +41,7 @@ fn base_in(declared: Option<Declared>) -> Option<Base>
 
 /// A type with these prefixes, if it has a base.
 fn with_base(prefixes: Vec<Prefix>, base: Option<Base>) -> Option<PrefixedType>
-    ensures { option_map prefixed_of result ≡ option_map (λ b. record { prefixes = prefixes.items; base = b }) base }
+    ensures { view result ≡ option_map (λ b. record { prefixes = prefixes.items; base = b }) base }
 {
     match base {
         Some(base) => Some(PrefixedType { prefixes, base }),
@@ -58,7 +56,7 @@ fn length_in(
     scope: &Scope,
     length: &Expr,
 ) -> Result<Option<u64>, NoMemory>
-    ensures { IfOk result (λ n. n ≡ option_and_then length_of (operand_in (gives text.now (scope_of scope.now) (tree_of length.now)))) }
+    ensures { IfOk result (λ n. n ≡ length_in text.now (scope_of scope.now) (tree_of length.now)) }
 {
     let single = check_single(alloc, text, scope, length)?;
     match &single.operand {
@@ -76,7 +74,7 @@ fn prefixed_behind(
     prefixes: Vec<Prefix>,
     e: &Expr,
 ) -> Result<Option<PrefixedType>, NoMemory>
-    ensures { IfOk result (λ r. option_map prefixed_of r ≡ option_map (behind prefixes.items) (prefixed text.now (scope_of scope.now) (tree_of e.now))) }
+    ensures { IfOk result (λ r. view r ≡ prefixed_after text.now (scope_of scope.now) prefixes.items (tree_of e.now)) }
 {
     match e {
         Expr::Name(name) => Ok(with_base(
@@ -105,7 +103,7 @@ fn copied(
     alloc: Global,
     value_type: &Option<PrefixedType>,
 ) -> Result<Option<PrefixedType>, NoMemory>
-    ensures { IfOk result (λ r. option_map prefixed_of r ≡ option_map prefixed_of value_type.now) }
+    ensures { IfOk result (λ r. view r ≡ view value_type.now) }
 {
     match value_type {
         Some(value_type) => Ok(Some(PrefixedType {
@@ -123,7 +121,7 @@ fn add_each(
     names: &[Name],
     value_type: &Option<PrefixedType>,
 ) -> Result<(), NoMemory>
-    ensures { OnOk result (views fields.new.items ≡ views fields.old.items ++ map (λ n. option_map prefixed_of value_type.now) names.now) }
+    ensures { OnOk result (views fields.new.items ≡ with_names (views fields.old.items) names.now (view value_type.now)) }
 {
     for _ in names {
         fields.push(copied(alloc, value_type)?)?;
@@ -138,7 +136,7 @@ pub fn prefixed(
     scope: &Scope,
     e: &Expr,
 ) -> Result<Option<PrefixedType>, NoMemory>
-    ensures { IfOk result (λ r. option_map prefixed_of r ≡ prefixed text.now (scope_of scope.now) (tree_of e.now)) }
+    ensures { IfOk result (λ r. view r ≡ prefixed text.now (scope_of scope.now) (tree_of e.now)) }
 {
     prefixed_behind(alloc, text, scope, Vec::new(alloc), e)
 }
@@ -151,7 +149,7 @@ fn add_field(
     fields: &mut Vec<Option<PrefixedType>>,
     field: &Field,
 ) -> Result<(), NoMemory>
-    ensures { OnOk result (views fields.new.items ≡ views fields.old.items ++ field_types text.now (scope_of scope.now) (field_of field.now)) }
+    ensures { OnOk result (views fields.new.items ≡ with_field text.now (scope_of scope.now) (views fields.old.items) (field_of field.now)) }
 {
     let value_type = prefixed(alloc, text, scope, &field.type_expr)?;
     add_each(alloc, fields, &field.names, &value_type)
@@ -181,7 +179,8 @@ fn add_structs(
     structs: &mut Vec<DeclaredStruct>,
     specs: &[TypeSpec],
 ) -> Result<(), NoMemory>
-    ensures { OnOk result (structs_of structs.new.items ≡ structs_of structs.old.items ++ specs_structs text.now (scope_of scope.now) (type_specs_of specs.now)) }
+    ensures { OnOk result
+        (structs_of structs.new.items ≡ with_specs text.now (scope_of scope.now) (structs_of structs.old.items) (type_specs_of specs.now)) }
 {
     for spec in specs {
         let declared = struct_of(alloc, text, scope, &spec.fields)?;

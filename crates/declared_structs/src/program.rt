@@ -65,8 +65,8 @@ fn enter_structs(table: &mut TypeTable, count: usize) -> Result<(), NoMemory>
     Ok(())
 }
 
-/// The table that has the structs of declarations that are types, and the types of their fields, by the constants and the names of a
-/// scope; and of the rules that fail in their sizes, the one with the least offset, then the least number.
+/// The table that has the structs of declarations that are types, and the types of their fields, by the constants and the names
+/// of a scope; and of the rules that fail in their sizes, the one with the least offset, then the least number.
 pub fn program_types(
     alloc: Global,
     text: &[u8],
@@ -75,7 +75,8 @@ pub fn program_types(
 ) -> Result<ProgramTypes, NoMemory>
     ensures table { IfOk result (λ r. IsTableOf (structs_in text.now (scope_of scope.now) (declarations_of decls.now)) r.table) }
     ensures formed { IfOk result (λ r. IsFormed r.table) }
-    ensures fault { IfOk result (λ r. IsLeast (SizesOfAllFail text.now (scope_of scope.now) (declarations_of decls.now)) r.fault) }
+    ensures fault { IfOk result
+        (λ r. IsLeast (SizesOfAllFail text.now (scope_of scope.now) (declarations_of decls.now)) r.fault) }
 {
     let structs = declared_structs(alloc, text, scope, decls)?;
     let found = settle(alloc, &structs)?;

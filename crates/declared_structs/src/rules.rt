@@ -1,18 +1,15 @@
 //! The rules of structs by themselves: of their names, the names of their fields, and the types of these.
 
-ghost use Rattle.std.specs.Prelude.{◌≡◌, [], ◌∷◌, IfOk, OnOk, codes, is_some};
-ghost use Rattle.std.specs.Str.{bytes_eq};
-ghost use Rattle.syntax.specs.Expressions.{spelled};
+ghost use Rattle.std.specs.Prelude.{◌≡◌, [], ◌∷◌, IfOk, OnOk};
 ghost use Rattle.syntax.specs.Declarations.{fields_of as tree_fields, type_spec_of, declarations_of};
 ghost use Rattle.type_faults.specs.Least.{IsLeast};
-ghost use Rattle.type_faults.specs.Faults.{IsFault};
-ghost use Rattle.names.specs.Blocks.{innermost};
-ghost use Rattle.names.specs.Universe.{is_blank};
-ghost use Rattle.names.specs.Scope.{scope_of, declaration};
-ghost use Rattle.declared_structs.specs.Faults.{is_this_struct, struct_name_fault, field_name_fault, noted, FieldNamesFail, field_names, FieldTypesFail, StructFails, StructsFail, DeclarationsFail};
+ghost use Rattle.names.specs.Scope.{scope_of};
+ghost use Rattle.declared_structs.specs.Faults.{is_this_struct, struct_name_fault, name_fault_in, StructFails, StructsFail};
+ghost use Rattle.declared_structs.specs.Faults.{field_name_fault, noted, FieldNamesFail, field_names, FieldTypesFail};
+ghost use Rattle.declared_structs.specs.Faults.{DeclarationsFail};
 ghost use Rattle.declared_structs.specs.Passing.{spec_views};
 
-use crate::specs_of::type_specs;
+use crate::type_specs::type_specs;
 use base::{NoMemory, Pos, ValueType};
 use expression_types::check_stated;
 use names::{Blocks, Declared, Scope, is_blank, spelled};
@@ -54,7 +51,7 @@ fn struct_name_fault(
 }
 
 fn name_fault(text: &[u8], scope: &Scope, number: usize, name: Name) -> Option<Fault>
-    ensures { result ≡ struct_name_fault number (is_blank (spelled text.now name)) (bytes_eq (spelled text.now name) (codes "init")) (declaration (scope_of scope.now) (spelled text.now name)) name.pos }
+    ensures { result ≡ name_fault_in text.now (scope_of scope.now) number name }
 {
     let bytes = spelled(text, name);
     struct_name_fault(
@@ -167,8 +164,8 @@ fn structs_fault(
     Ok(fault)
 }
 
-/// Of the rules that fail in the declarations of structs by themselves, the one with the least offset, then the least number, in a scope
-/// whose table has the types of the program.
+/// Of the rules that fail in the declarations of structs by themselves, the one with the least offset, then the least number,
+/// in a scope whose table has the types of the program.
 pub fn declarations_fault(
     alloc: Global,
     text: &[u8],

@@ -1,19 +1,19 @@
 //! The rules of the sizes of structs.
 
-ghost use Rattle.std.specs.Prelude.{◌≡◌, ℕ, List, Option, IfOk, map, slice_get};
-ghost use Rattle.std.specs.Option.{option_map};
+ghost use Rattle.std.specs.Prelude.{◌≡◌, ℕ, List, Option, IfOk, slice_get};
 ghost use Rattle.syntax.specs.Expressions.{ex_of as tree_of};
 ghost use Rattle.syntax.specs.Declarations.{field_of, fields_of as tree_fields, type_spec_of, declarations_of};
 ghost use Rattle.type_faults.specs.Least.{IsLeast};
-ghost use Rattle.struct_sizes.specs.Structs.{Fields, prefixed_of};
+ghost use Rattle.struct_sizes.specs.Structs.{Fields};
 ghost use Rattle.struct_sizes.specs.Verdicts.{AreVerdicts, IsSettled};
 ghost use Rattle.names.specs.Scope.{scope_of};
-ghost use Rattle.declared_structs.specs.Forms.{prefixed, structs_in};
-ghost use Rattle.declared_structs.specs.Faults.{size_kind, struct_kind, bracket_at, WhereNamed, LevelFails, LevelsFail, SizesFail, SizesOfAllFail};
-ghost use Rattle.declared_structs.specs.Passing.{whole_fault, RefusalFails, refusal_in, OptionalFails, types_of, spec_views};
+ghost use Rattle.declared_structs.specs.Forms.{structs_in};
+ghost use Rattle.declared_structs.specs.Faults.{size_kind, struct_kind, bracket_at, LevelFails, FieldSizeFails, LevelsFail};
+ghost use Rattle.declared_structs.specs.Faults.{SizesFail, SizesOfAllFail};
+ghost use Rattle.declared_structs.specs.Passing.{view, whole_fault, RefusalFails, refusal_in, OptionalFails, AreOf, spec_views};
 
 use crate::forms::prefixed;
-use crate::specs_of::type_specs;
+use crate::type_specs::type_specs;
 use base::{NoMemory, Pos};
 use names::Scope;
 use std::alloc::Global;
@@ -61,7 +61,7 @@ fn bracket_at(e: &Expr, level: usize) -> Pos
 
 /// The fault of an array of a type that has no such size.
 fn array_fault(words: &[Option<u32>], e: &Expr, value_type: &Option<PrefixedType>) -> Option<Fault>
-    ensures { IsLeast (LevelFails words.now (tree_of e.now) (option_map prefixed_of value_type.now)) result }
+    ensures { IsLeast (LevelFails words.now (tree_of e.now) (view value_type.now)) result }
 {
     let Some(value_type) = value_type else {
         return None;
@@ -83,7 +83,7 @@ fn field_fault(
     words: &[Option<u32>],
     field: &Field,
 ) -> Result<Option<Fault>, NoMemory>
-    ensures { IfOk result (λ r. IsLeast (WhereNamed (field_of field.now).names (LevelFails words.now (field_of field.now).type_expr (prefixed text.now (scope_of scope.now) (field_of field.now).type_expr))) r) }
+    ensures { IfOk result (λ r. IsLeast (FieldSizeFails text.now (scope_of scope.now) words.now (field_of field.now)) r) }
 {
     if field.names.is_empty() {
         return Ok(None);
@@ -132,7 +132,8 @@ fn refusal_fault(
     refusal: Refusal,
     spec: &TypeSpec,
 ) -> Result<Option<Fault>, NoMemory>
-    ensures { IfOk result (λ r. IsLeast (RefusalFails text.now (scope_of scope.now) words.now refusal (type_spec_of spec.now)) r) }
+    ensures { IfOk result
+        (λ r. IsLeast (RefusalFails text.now (scope_of scope.now) words.now refusal (type_spec_of spec.now)) r) }
 {
     let whole = whole_fault(refusal.told, spec.name.pos);
     if !refusal.is_source {
@@ -161,7 +162,8 @@ fn size_fault(
     refusal: Option<Refusal>,
     spec: &TypeSpec,
 ) -> Result<Option<Fault>, NoMemory>
-    ensures { IfOk result (λ r. IsLeast (OptionalFails text.now (scope_of scope.now) words.now refusal (type_spec_of spec.now)) r) }
+    ensures { IfOk result
+        (λ r. IsLeast (OptionalFails text.now (scope_of scope.now) words.now refusal (type_spec_of spec.now)) r) }
 {
     match refusal {
         Some(refusal) => refusal_fault(alloc, text, scope, words, refusal, spec),
@@ -177,7 +179,8 @@ fn each_fault(
     found: &Verdicts,
     specs: &[&TypeSpec],
 ) -> Result<Option<Fault>, NoMemory>
-    ensures { (ss : List Fields) (table : List (Option ℕ)) → AreVerdicts ss table found.now → ss ≡ map (types_of text.now (scope_of scope.now)) (spec_views specs.now)
+    ensures { (ss : List Fields) (table : List (Option ℕ)) → AreVerdicts ss table found.now
+        → AreOf text.now (scope_of scope.now) specs.now ss
         → IfOk result (λ r. IsLeast (SizesFail text.now (scope_of scope.now) ss table 0 (spec_views specs.now)) r) }
 {
     let mut fault = None;
@@ -189,7 +192,8 @@ fn each_fault(
     Ok(fault)
 }
 
-/// Of the rules that fail in the sizes of structs, the one with the least offset, then the least number, by what was found of the structs.
+/// Of the rules that fail in the sizes of structs, the one with the least offset, then the least number, by what was found of
+/// the structs.
 pub fn sizes_fault(
     alloc: Global,
     text: &[u8],

@@ -1,9 +1,12 @@
 //! The array types in declarations.
 
 ghost use Rattle.std.specs.Prelude.{◌≡◌, OnOk};
-ghost use Rattle.syntax.specs.Declarations.{field_of, fields_of, parameters_of, type_spec_of, type_specs_of, body_in, function_of, declaration_of, declarations_of};
+ghost use Rattle.syntax.specs.Declarations.{field_of, fields_of, parameters_of, type_spec_of, type_specs_of, body_in};
+ghost use Rattle.syntax.specs.Declarations.{function_of, declaration_of, declarations_of};
 ghost use Rattle.names.specs.Scope.{scope_of};
-ghost use Rattle.entered_types.specs.Entered.{entered_field, entered_fields, entered_parameters, entered_type_spec, entered_type_specs, entered_body, entered_function, entered_declaration, entered_all, OnlyEnters};
+ghost use Rattle.entered_types.specs.Entered.{entered_field, entered_fields, entered_parameters, entered_type_spec};
+ghost use Rattle.entered_types.specs.Entered.{entered_type_specs, entered_body, entered_function, entered_declaration};
+ghost use Rattle.entered_types.specs.Entered.{entered_all, OnlyEnters};
 
 use crate::expressions::{enter_each, enter_expr};
 use crate::statements::{enter_specs, enter_stmts};

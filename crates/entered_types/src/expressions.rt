@@ -7,7 +7,8 @@ ghost use Rattle.operators.specs.Passing.{operand_of};
 ghost use Rattle.operand_parts.specs.ArrayTypes.{length_of};
 ghost use Rattle.names.specs.Scope.{scope_of, declaration};
 ghost use Rattle.names.specs.Types.{declared_type};
-ghost use Rattle.entered_types.specs.Entered.{with_array, length_in, entered, stated_after, entered_each, entered_bound, entered_elements, entered_some};
+ghost use Rattle.entered_types.specs.Entered.{with_array, length_in, entered, stated_after, entered_each, entered_bound};
+ghost use Rattle.entered_types.specs.Entered.{entered_elements, entered_some};
 ghost use Rattle.expression_types.specs.Passing.{element_value};
 
 use base::{NoMemory, ValueType};
@@ -139,7 +140,8 @@ fn enter_length(
     e: &Expr,
 ) -> Result<Option<u64>, NoMemory>
     ensures entered { OnOk result (scope_of scope.new ≡ entered text.now (scope_of scope.old) (tree_of e.now)) }
-    ensures length { IfOk result (λ n. n ≡ length_in text.now (entered text.now (scope_of scope.old) (tree_of e.now)) (tree_of e.now)) }
+    ensures length { IfOk result
+        (λ n. n ≡ length_in text.now (entered text.now (scope_of scope.old) (tree_of e.now)) (tree_of e.now)) }
 {
     enter_expr(alloc, text, scope, e)?;
     let checked = check_single(alloc, text, scope, e)?;

@@ -1,9 +1,12 @@
 //! The array types in statements.
 
 ghost use Rattle.std.specs.Prelude.{◌≡◌, OnOk};
-ghost use Rattle.syntax.specs.Statements.{value_spec_of, value_specs_of, simple_of, simple_in, guard_of, targets_of, clause_of, stm_of, els_of, stms_of};
+ghost use Rattle.syntax.specs.Statements.{value_spec_of, value_specs_of, simple_of, simple_in, guard_of, targets_of};
+ghost use Rattle.syntax.specs.Statements.{clause_of, stm_of, els_of, stms_of};
 ghost use Rattle.names.specs.Scope.{scope_of};
-ghost use Rattle.entered_types.specs.Entered.{entered_spec, entered_specs, entered_simple, entered_simple_in, entered_guard, entered_targets, entered_clause, entered_statement, entered_else, entered_statements};
+ghost use Rattle.entered_types.specs.Entered.{entered_spec, entered_specs, entered_simple, entered_simple_in, entered_guard};
+ghost use Rattle.entered_types.specs.Entered.{entered_targets, entered_clause, entered_statement, entered_else};
+ghost use Rattle.entered_types.specs.Entered.{entered_statements};
 
 use crate::expressions::{enter_each, enter_expr, enter_some};
 use base::NoMemory;

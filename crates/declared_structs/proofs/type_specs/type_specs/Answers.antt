@@ -4,7 +4,7 @@ use Rattle.syntax.specs.Declarations.{declarations_of}
 use Rattle.type_faults.proofs.Lists.{nothing_left}
 use Rattle.declared_structs.specs.Faults.{type_specs_in}
 use Rattle.declared_structs.specs.Passing.{spec_views}
-use Rattle.declared_structs.proofs.specs_of.type_specs.Goals as goal
+use Rattle.declared_structs.proofs.type_specs.type_specs.Goals as goal
 
 pub returns : goal.returns
 returns c =
