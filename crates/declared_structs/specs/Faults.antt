@@ -21,6 +21,8 @@ use Rattle.struct_sizes.specs.Structs.{Prefixed, Fields}
 use Rattle.struct_sizes.specs.Words.{IsTable}
 use Rattle.struct_sizes.specs.Faults.{IsInnermost}
 use Rattle.struct_sizes.specs.Verdicts.{IsTold, IsSource}
+use Rattle.typed.specs.Tables.{Table}
+use Rattle.names.specs.Types.{is_known}
 use Rattle.names.specs.Blocks.{Blocks, innermost, insert}
 use Rattle.names.specs.Universe.{is_blank}
 use Rattle.names.specs.declared.scope.Declared.{Declared}
@@ -144,3 +146,17 @@ module _ (text : List ℕ) where
     pub table : List (Option ℕ)
     pub is_table : IsTable (structs_in text s ds) table
     pub fails : SizesFail s (structs_in text s ds) table 0 (type_specs_in ds) f
+
+-- ---- types
+
+-- structs that are no types in a table, from a number on, each at its name
+abbrev pub StructsOpen : Table → ℕ → List TypeSpec → Fault → Type 0
+StructsOpen T k [] f = ⊥
+StructsOpen T k (t ∷ ts) f =
+    IsFault (if is_known T (value_type.Struct (record { 0 = k })) then None else Some (fault kind.SelfReference t.name.pos)) f
+    ⊎ StructsOpen T (suc k) ts f
+
+-- each is a type
+abbrev pub AreTypes : Table → ℕ → List TypeSpec → Type 0
+AreTypes T k [] = Unit {0}
+AreTypes T k (t ∷ ts) = (is_known T (value_type.Struct (record { 0 = k })) ≡ true) × AreTypes T (suc k) ts

@@ -6,13 +6,18 @@
 //! type, looked at in a scope whose table has the types; a struct that holds itself, or has no such size, is told at its name.
 //! Where nothing else has to be mended before a struct, an array of its fields that has no such size is told at its bracket
 //! also if its elements are of a struct that is refused.
+//!
+//! Where no rule fails and yet a struct is no type in the table, declarations go in a circle: `structs_open` tells the first such
+//! struct at its name, as one that needs itself.
 #![tactic(auto)]
 
 mod forms;
+mod open_structs;
 mod program;
 mod rules;
 mod sizes;
 mod type_specs;
 
+pub use open_structs::structs_open;
 pub use program::{ProgramTypes, program_types};
 pub use rules::declarations_fault;
