@@ -9,7 +9,7 @@ use Rattle.syntax.specs.Statements.{ValueSpec}
 use Rattle.syntax.specs.Declarations.{Declaration, constants, variables, types, function}
 use Rattle.typed_syntax.specs.Syntax.{Ex, Exs}
 use Rattle.type_faults.specs.declared.fault.Fault.{Fault}
-use Rattle.type_faults.specs.declared.fault.FaultKind.TheVariants.{Redeclared, WrongCount, OutOfProfile}
+use Rattle.type_faults.specs.declared.fault.FaultKind.TheVariants.{Redeclared, WrongCount}
 use Rattle.type_faults.specs.Faults.{fault, IsFault}
 use Rattle.type_faults.proofs.Decided.{Decided}
 use Rattle.type_faults.proofs.Options.{and_then_some, map_some, none_some, same_some}
@@ -20,7 +20,7 @@ use Rattle.names.specs.declared.scope.Known.{Known}
 use Rattle.names.specs.declared.scope.Known.TheVariants as known_as
 use Rattle.names.specs.Scope.{Scope}
 use Rattle.expression_types.specs.declared.wants.Wanted.{Wanted}
-use Rattle.expression_types.specs.Typing.{operand_in, value_in, type_in_one, own_type, many, all_values, values, each, fits, taken, spec_wanted, gives, stated_type, seen}
+use Rattle.expression_types.specs.Typing.{operand_in, value_in, own_type, many, all_values, values, each, fits, taken, spec_wanted, gives, stated_type, seen}
 use Rattle.expression_types.specs.Faults.{CountFails, SinglesFail, TakeFails, FailsInEach, FailsBefore}
 use Rattle.expression_types.proofs.DecidedValues.{take_decided}
 use Rattle.expression_types.proofs.Settled.{seen_decided}
@@ -28,24 +28,16 @@ use Rattle.expression_types.proofs.Places.{spec_asks}
 use Rattle.expression_types.proofs.InForm.{typed_value}
 use Rattle.package_values.specs.declared.items.Role.{Role}
 use Rattle.package_values.specs.declared.items.Role.TheVariants as role
-use Rattle.package_values.specs.Values.{Item, items_in, is_variable_type, known_variable, given_by, variable_type, given_as, settled}
+use Rattle.package_values.specs.Values.{Item, items_in, given_by, variable_type, given_as, settled}
 use Rattle.package_values.specs.Needs.{have_form}
-use Rattle.package_values.specs.ValueFaults.{is_this_value, value_name_fault, ValuesFail, is_bare, type_asked, SpecFails, SpecsFail, left_out_fault, ValuesLeftOut, LeftOut, InitialsFail, VariablesFail, AllVariablesFail, DeclarationsFail, NamesFail}
+use Rattle.package_values.specs.ValueFaults.{is_this_value, value_name_fault, ValuesFail, is_bare, type_asked, SpecFails, SpecsFail, InitialsFail, VariablesFail, AllVariablesFail, DeclarationsFail, NamesFail}
 use Rattle.package_values.specs.Accepted.{TypeIs, ConstantValuesAre, ConstantsAre, AllConstantsAre, OwnTypesAre, VariableTypesAre, InitialsAre, VariablesAre, AllVariablesAre, SpecsAre, NamesAre, IsGiven, DeclarationsAre}
 use Rattle.package_values.proofs.Holding.{holding}
-use Rattle.package_values.proofs.Giving.{allowed_gives, variable_known}
+use Rattle.package_values.proofs.Giving.{allowed_gives}
 use Rattle.package_values.proofs.AllKnown.{NothingFails, behind, settled_is, never_here, type_behind, value_behind, single_behind, forms_behind, no_call_behind, counted_behind, known_there, given_there, settled_behind}
 
 abbrev Never : (Fault → Type 0) → Type 0
 Never P = (f : Fault) → P f → ⊥
-
--- a type that isn't left out is one whose variables have rules
-rules_there : (o : Option ValueType) (t : ValueType) (at : Pos) → o ≡ Some t → Never (IsFault (left_out_fault o at)) → is_variable_type t ≡ true
-rules_there o t at o_is never = by (is_variable_type t) (λ f h. never f (subst (λ (x : Option ValueType). IsFault (left_out_fault x at) f) (sym o_is) h))
-  where
-    by : (b : Bool) → Never (IsFault (cond b None (Some (fault OutOfProfile at)))) → b ≡ true
-    by true free = refl
-    by false free = absurd (free _ refl)
 
 -- a name that is declared as the rules want
 name_there : (k : ℕ) (blank init : Bool) (d : Option Declared) (at : Pos) → Never (IsFault (value_name_fault k blank init d at)) → (blank ≡ true) ⊎ ((init ≡ false) × (is_this_value k d ≡ true))
@@ -110,21 +102,22 @@ module _ (text : List ℕ) (s : Scope) (ds : List Declaration) (h : NothingFails
       record { form = forms_behind text s ds h v.values (λ f x. never f (inr x)); xs = xs.0; taken_is = xs.1 }
 
   -- a value of a type by itself
-  own_type_is : (e : TreeEx) (x : Ex) → value_in (gives text r e) ≡ Some x → Never (IsFault (left_out_fault (type_in_one (gives text r e)) (first_pos e))) → (t : ValueType) × (own_type (gives text r e) ≡ Some t) × (is_variable_type t ≡ true)
-  own_type_is e x is never =
+  own_type_is : (e : TreeEx) (x : Ex) → value_in (gives text r e) ≡ Some x
+      → (t : ValueType) × (own_type (gives text r e) ≡ Some t)
+  own_type_is e x is =
       let o = operand_in (gives text r e) in
       let p = and_then_some as_value o x is in
       let t = typed_value p.0 x p.2 in
       let whole : own_type (gives text r e) ≡ Some t.0 =
       ap (option_and_then (λ y. option_and_then (λ v. type_of y) (as_value y))) p.1 ∙ ap (option_and_then (λ (v : Ex). type_of p.0)) p.2 ∙ t.1 in
-      (t.0, whole, rules_there (type_in_one (gives text r e)) t.0 (first_pos e) (ap (option_and_then type_of) p.1 ∙ t.1) never)
+      (t.0, whole)
 
-  own_types_are : (es : TreeExs) (xs : List Ex) → values (seen text r es) ≡ Some xs → Never (ValuesLeftOut (seen text r es)) → OwnTypesAre text r es
-  own_types_are none xs is never = tt
-  own_types_are (some e es) xs is never =
+  own_types_are : (es : TreeExs) (xs : List Ex) → values (seen text r es) ≡ Some xs → OwnTypesAre text r es
+  own_types_are none xs is = tt
+  own_types_are (some e es) xs is =
       let p = and_then_some (λ x. option_map (λ ys. x ∷ ys) (values (seen text r es))) (value_in (gives text r e)) xs is in
       let q = map_some (λ ys. p.0 ∷ ys) (values (seen text r es)) xs p.2 in
-      (own_type_is e p.0 p.1 (λ f x. never f (inl x)), own_types_are es q.0 q.1 (λ f x. never f (inr x)))
+      (own_type_is e p.0 p.1, own_types_are es q.0 q.1)
 
   -- what has the form of constants has a value each
   values_there : (es : TreeExs) (ps : List Wanted) (xs : Exs) → have_form text r es ≡ true → taken ps (seen text r es) ≡ Some xs → (ys : List Ex) × (values (seen text r es) ≡ Some ys)
@@ -133,25 +126,32 @@ module _ (text : List ℕ) (s : Scope) (ds : List Declaration) (h : NothingFails
       let p = allowed_gives (fits ps os) (all_values os (many os)) xs is in
       let q = map_some each (values os) xs (ap (all_values os) (sym (no_call_behind text s ds h es form)) ∙ p.1) in (q.0, q.1)
 
-  types_are : (t : Option TreeEx) (v : ValueSpec) → v.type_expr ≡ t → Never (FailsBefore text r t) → Never (LeftOut text r t (seen text r v.values)) → ((t ≡ None) → InitialsAre text r v) → VariableTypesAre text r t v.values
-  types_are (Some e) v is type_never never begin = let t = type_behind text s ds h e type_never in (t.0, t.1, rules_there (stated_type text r e) t.0 (first_pos e) t.1 never)
-  types_are None v is type_never never begin =
-      let i = begin refl in let ys = values_there v.values (spec_wanted text r v) i.xs i.form i.taken_is in own_types_are v.values ys.0 ys.1 never
+  types_are : (t : Option TreeEx) (v : ValueSpec) → v.type_expr ≡ t → Never (FailsBefore text r t)
+      → ((t ≡ None) → InitialsAre text r v) → VariableTypesAre text r t v.values
+  types_are (Some e) v is type_never begin = type_behind text s ds h e type_never
+  types_are None v is type_never begin =
+      let i = begin refl in
+      let ys = values_there v.values (spec_wanted text r v) i.xs i.form i.taken_is in
+      own_types_are v.values ys.0 ys.1
 
   variables_are : (at : Pos) (v : ValueSpec) → Never (VariablesFail text r at v) → VariablesAre text r v
   variables_are at v never = by (is_bare v.type_expr v.values) refl
     where
       each_never : Never (FailsInEach text r v.values)
-      each_never f x = never f (inl (inl (inr x)))
+      each_never f x = never f (inl (inr x))
 
       begin : (b : Bool) → is_bare v.type_expr v.values ≡ b → b ≡ false → InitialsAre text r v
-      begin b is b_is = initials_are at v (λ f x. never f (inl (inl (inl x)))) each_never (λ f x. never f (inl (inr (subst (λ (c : Bool). InitialsFail text r c at v f) (sym (is ∙ b_is)) x))))
+      begin b is b_is =
+          initials_are at v (λ f x. never f (inl (inl x))) each_never
+          (λ f x. never f (inr (subst (λ (c : Bool). InitialsFail text r c at v f) (sym (is ∙ b_is)) x)))
 
       untyped : v.type_expr ≡ None → is_bare v.type_expr v.values ≡ false
       untyped t_is = ap (λ (t : Option TreeEx). is_bare t v.values) t_is
 
       with_types : VariableTypesAre text r v.type_expr v.values
-      with_types = types_are v.type_expr v refl (λ f x. never f (inl (inl (inl x)))) (λ f x. never f (inr x)) (λ t_is. begin (is_bare v.type_expr v.values) refl (untyped t_is))
+      with_types =
+          types_are v.type_expr v refl (λ f x. never f (inl (inl x)))
+          (λ t_is. begin (is_bare v.type_expr v.values) refl (untyped t_is))
 
       by : (b : Bool) → is_bare v.type_expr v.values ≡ b → VariablesAre text r v
       by true is = record { types_are = with_types; values = inl is }
@@ -177,8 +177,8 @@ module _ (text : List ℕ) (s : Scope) (ds : List Declaration) (h : NothingFails
   is_given : (q : Role) (i : Item) (x : Known) → given_as text q r i ≡ Some x → IsGiven text r q i x
   is_given role.Constant i x is = let p = map_some known_as.Constant (given_by text r i.type_expr i.value) x is in (p.0, sym p.2, p.1)
   is_given role.Variable i x is =
-      let p = and_then_some known_variable (variable_type text r i.type_expr i.value i.values (length i.names) i.place) x is in
-      let q1 = variable_known text s p.0 x p.2 in (p.0, sym q1.1, p.1, q1.0)
+      let found = variable_type text r i.type_expr i.value i.values (length i.names) i.place in
+      let p = map_some known_as.Variable found x is in (p.0, sym p.2, p.1)
 
   pub declarations_are : DeclarationsAre text (settled text s (items_in ds)) ds
   declarations_are =

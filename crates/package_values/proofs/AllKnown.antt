@@ -35,17 +35,17 @@ use Rattle.names.specs.declared.scope.Known.{Known}
 use Rattle.names.specs.declared.scope.Known.TheVariants as known_as
 use Rattle.names.specs.Scope.{Scope, Signature, numbered, declaration}
 use Rattle.names.proofs.Settled.{IsSound, AreSound, IsKnown, IsTyped, IsSettled, predeclared_is}
-use Rattle.expression_types.specs.Typing.{are_single, Gives, one, name_operand, prefix_gives, wanted_by, accepts_operand, single, operand_in, type_in_one, own_type, Seen, Many, many_in, many as many_of, count_of, declared_wanted, spec_wanted, gives, stated_type, seen}
+use Rattle.expression_types.specs.Typing.{are_single, Gives, one, name_operand, prefix_gives, wanted_by, accepts_operand, single, operand_in, Seen, Many, many_in, many as many_of, count_of, declared_wanted, spec_wanted, gives, stated_type, seen}
 use Rattle.expression_types.specs.Faults.{single_fault, range_fault, RangeFails, CountFails, SinglesFail, ValuesFail as ManyFail, Fails, StatedFails, FailsInEach, FailsBefore}
 use Rattle.expression_types.proofs.DecidedValues.{single_decided, as_value_decided, ranges_placed}
 use Rattle.expression_types.proofs.Places.{spec_asks}
 use Rattle.expression_types.proofs.InForm.{typed_value}
 use Rattle.expression_types.proofs.Settled.{gives_decided, stated_decided}
-use Rattle.package_values.specs.Values.{Item, as_constant, unvalued, paired, or_unvalued, items_of, items_in_specs, items_in, with_type, is_variable_type, known_variable, accepted, given_by, variable_type, given_as, given, settled}
+use Rattle.package_values.specs.Values.{Item, as_constant, unvalued, paired, or_unvalued, items_of, items_in_specs, items_in, with_type, accepted, given_by, variable_type, given_as, given, settled}
 use Rattle.package_values.specs.declared.items.Role.{Role}
 use Rattle.package_values.specs.declared.items.Role.TheVariants as role
 use Rattle.package_values.specs.Needs.{names_in, names_in_each, names_in_some, names_waited, value_number, also, has_form, have_form, waited_form, numbers_of, needed_for, needed_as, needed, needed_in, Needs, Reaches, at_once, through}
-use Rattle.package_values.specs.ValueFaults.{single_count, value_fault, ValuesFail, type_asked, SpecFails, SpecsFail, form_fault, FormsFail, left_out_fault, ValuesLeftOut, InitialsFail, VariablesFail, AllVariablesFail, cycle_place, DeclarationsFail, ItemsFail}
+use Rattle.package_values.specs.ValueFaults.{single_count, value_fault, ValuesFail, type_asked, SpecFails, SpecsFail, form_fault, FormsFail, InitialsFail, VariablesFail, AllVariablesFail, cycle_place, DeclarationsFail, ItemsFail}
 use Rattle.components.specs.Graph.{Among}
 use Rattle.package_values.specs.Passing.{has_mark, is_marked}
 use Rattle.package_values.proofs.Growth.{known, Consistent, IsEnd, rounds, rounds_good, rounds_settle, all_seen, rounds_hold}
@@ -251,11 +251,11 @@ module _ (text : List ℕ) (s : Scope) (n : ℕ) (formed : IsFormed s.types) (ty
 
   -- of the value of a variable without a type
   abbrev HoldsInitial : Option TreeEx → Option TreeEx → TreeExs → Type 0
-  HoldsInitial (Some t) v es = Never (IsFault (left_out_fault (stated_type text (holding s cs) t) (first_pos t)))
+  HoldsInitial (Some t) v es = Unit {0}
   HoldsInitial None None es = (have_form text (holding s cs) es ≡ true) × (AllSame text s cs (filled cs) (names_in_each es) → ⊥)
   HoldsInitial None (Some e) es =
       (has_form text (holding s cs) e ≡ true) × Never (Fails text (holding s cs) e) × Never (IsFault (single_fault (gives text (holding s cs) e)))
-      × Never (IsFault (range_fault (first_pos e) (operand_in (gives text (holding s cs) e)))) × Never (IsFault (left_out_fault (type_in_one (gives text (holding s cs) e)) (first_pos e)))
+      × Never (IsFault (range_fault (first_pos e) (operand_in (gives text (holding s cs) e))))
 
   abbrev HoldsAs : Role → Option TreeEx → Option TreeEx → TreeExs → Type 0
   HoldsAs role.Constant t v es = Holds t v es
@@ -386,33 +386,32 @@ module _ (text : List ℕ) (s : Scope) (n : ℕ) (formed : IsFormed s.types) (ty
   forms_hold (some e es) never =
       ap (λ (b : Bool). b && have_form text (holding s cs) es) (form_holds (has_form text (holding s cs) e) (first_pos e) (λ f h. never f (inl h))) ∙ forms_hold es (λ f h. never f (inr h))
 
-  variables_hold : (all es : TreeExs) → have_form text (holding s cs) es ≡ true → Never (FailsInEach text (holding s cs) es) → Never (SinglesFail (seen text (holding s cs) es)) → Never (RangeFails (seen text (holding s cs) es))
-      → Never (ValuesLeftOut (seen text (holding s cs) es)) → EachHolds role.Variable None all es
-  variables_hold all none forms each singles ranges plain = tt
-  variables_hold all (some e es) forms each singles ranges plain =
+  variables_hold : (all es : TreeExs) → have_form text (holding s cs) es ≡ true → Never (FailsInEach text (holding s cs) es)
+      → Never (SinglesFail (seen text (holding s cs) es)) → Never (RangeFails (seen text (holding s cs) es))
+      → EachHolds role.Variable None all es
+  variables_hold all none forms each singles ranges = tt
+  variables_hold all (some e es) forms each singles ranges =
       let form = both_form (has_form text (holding s cs) e) (have_form text (holding s cs) es) forms in (
-        (form.0, λ f h. each f (inl h), λ f h. singles f (inl h), λ f h. ranges f (inl h), λ f h. plain f (inl h)),
-        variables_hold all es form.1 (λ f h. each f (inr h)) (λ f h. singles f (inr h)) (λ f h. ranges f (inr h)) (λ f h. plain f (inr h)),
+        (form.0, λ f h. each f (inl h), λ f h. singles f (inl h), λ f h. ranges f (inl h)),
+        variables_hold all es form.1 (λ f h. each f (inr h)) (λ f h. singles f (inr h)) (λ f h. ranges f (inr h)),
       )
 
-  abbrev IsPlainType : TreeEx → Type 0
-  IsPlainType t = Never (IsFault (left_out_fault (stated_type text (holding s cs) t) (first_pos t)))
-
-  typed_hold : (t : TreeEx) → IsPlainType t → (all es : TreeExs) → EachHolds role.Variable (Some t) all es
-  typed_hold t plain all none = tt
-  typed_hold t plain all (some e es) = (plain, typed_hold t plain all es)
+  typed_hold : (t : TreeEx) (all es : TreeExs) → EachHolds role.Variable (Some t) all es
+  typed_hold t all none = tt
+  typed_hold t all (some e es) = (tt, typed_hold t all es)
 
   -- of a declaration with a type, and of one without
-  typed_sound : (t : TreeEx) (ns : List Name) (es : TreeExs) → Never (StatedFails text (holding s cs) t) → IsPlainType t → AllByRecursion Sound (items_of role.Variable (record { names = ns; type_expr = Some t; values = es }))
-  typed_sound t ns es never plain = by (paired role.Variable ns (Some t) es 0 ns es) refl
+  typed_sound : (t : TreeEx) (ns : List Name) (es : TreeExs) → Never (StatedFails text (holding s cs) t)
+      → AllByRecursion Sound (items_of role.Variable (record { names = ns; type_expr = Some t; values = es }))
+  typed_sound t ns es never = by (paired role.Variable ns (Some t) es 0 ns es) refl
     where
       by : (o : Option (List Item)) → paired role.Variable ns (Some t) es 0 ns es ≡ o → AllByRecursion Sound (or_unvalued o (unvalued role.Variable ns (Some t) es 0 ns))
-      by None e = unvalued_sound role.Variable ns (Some t) es 0 ns never plain
-      by (Some is) e = paired_sound role.Variable ns (Some t) es 0 ns es is e never (typed_hold t plain es es)
+      by None e = unvalued_sound role.Variable ns (Some t) es 0 ns never tt
+      by (Some is) e = paired_sound role.Variable ns (Some t) es 0 ns es is e never (typed_hold t es es)
 
   untyped_sound : (at : Pos) (ns : List Name) (es : TreeExs) → Never (FailsInEach text (holding s cs) es) → Never (InitialsFail text (holding s cs) false at (record { names = ns; type_expr = None; values = es }))
-      → Never (ValuesLeftOut (seen text (holding s cs) es)) → AllByRecursion Sound (items_of role.Variable (record { names = ns; type_expr = None; values = es }))
-  untyped_sound at ns es each never plain = by (paired role.Variable ns None es 0 ns es) refl
+      → AllByRecursion Sound (items_of role.Variable (record { names = ns; type_expr = None; values = es }))
+  untyped_sound at ns es each never = by (paired role.Variable ns None es 0 ns es) refl
     where
       os : List Seen
       os = seen text (holding s cs) es
@@ -443,12 +442,13 @@ module _ (text : List ℕ) (s : Scope) (n : ℕ) (formed : IsFormed s.types) (ty
 
       by : (o : Option (List Item)) → paired role.Variable ns None es 0 ns es ≡ o → AllByRecursion Sound (or_unvalued o (unvalued role.Variable ns None es 0 ns))
       by None e = unvalued_sound role.Variable ns None es 0 ns (λ f h. h) (forms, waits_for_one role.Variable None ns es (fault WrongCount at) e each singles count_never)
-      by (Some is) e = paired_sound role.Variable ns None es 0 ns es is e (λ f h. h) (variables_hold es es forms each singles (ranges is e) plain)
+      by (Some is) e =
+          paired_sound role.Variable ns None es 0 ns es is e (λ f h. h) (variables_hold es es forms each singles (ranges is e))
 
   variables_sound : (at : Pos) (t : Option TreeEx) (ns : List Name) (es : TreeExs) → Never (VariablesFail text (holding s cs) at (record { names = ns; type_expr = t; values = es }))
       → AllByRecursion Sound (items_of role.Variable (record { names = ns; type_expr = t; values = es }))
-  variables_sound at (Some t) ns es never = typed_sound t ns es (λ f h. never f (inl (inl (inl h)))) (λ f h. never f (inr h))
-  variables_sound at None ns es never = untyped_sound at ns es (λ f h. never f (inl (inl (inr h)))) (λ f h. never f (inl (inr h))) (λ f h. never f (inr h))
+  variables_sound at (Some t) ns es never = typed_sound t ns es (λ f h. never f (inl (inl h)))
+  variables_sound at None ns es never = untyped_sound at ns es (λ f h. never f (inl (inr h))) (λ f h. never f (inr h))
 
   all_variables_sound : (at : Pos) (vs : List ValueSpec) → Never (AllVariablesFail text (holding s cs) at vs) → AllByRecursion Sound (items_in_specs role.Variable vs)
   all_variables_sound at [] never = tt
@@ -482,32 +482,22 @@ module _ (text : List ℕ) (s : Scope) (n : ℕ) (formed : IsFormed s.types) (ty
   with_form : (v : Option TreeEx) (es : TreeExs) → waited_form text (holding s cs) v es ≡ true → Unknown (numbers_of text (holding s cs) (names_waited v es)) → VariableUnknown None v es
   with_form v es form u = subst (λ (b : Bool). Unknown (cond b (numbers_of text (holding s cs) (names_waited v es)) [])) (sym form) u
 
-  -- a variable of a type that isn't left out is known
-  variable_there : (t : ValueType) (at : Pos) → Never (IsFault (left_out_fault (Some t) at)) → (x : Known) × (known_variable t ≡ Some x)
-  variable_there t at never = by (is_variable_type t) never
-    where
-      by : (b : Bool) → Never (IsFault (cond b None (Some (fault OutOfProfile at)))) → (x : Known) × (allowed b (Some (known_as.Variable t)) ≡ Some x)
-      by true free = (known_as.Variable t, refl)
-      by false free = absurd (free _ refl)
-
-  never_unknown : (o : Option ValueType) (at : Pos) (t : ValueType) → o ≡ Some t → Never (IsFault (left_out_fault o at)) → option_and_then known_variable o ≡ None → ⊥
-  never_unknown o at t o_is never is =
-      let z = variable_there t at (λ f h. never f (subst (λ (x : Option ValueType). IsFault (left_out_fault x at) f) (sym o_is) h)) in
-      none_some (sym is ∙ ap (option_and_then known_variable) o_is ∙ z.1)
-
   -- an operand that is a value by itself has a type
-  own_there : (x : Operand) (at : Pos) → Never (IsFault (range_fault at (Some x))) → (t : ValueType) × (type_of x ≡ Some t) × (option_and_then (λ e. type_of x) (as_value x) ≡ Some t)
+  own_there : (x : Operand) (at : Pos) → Never (IsFault (range_fault at (Some x)))
+      → (t : ValueType) × (option_and_then (λ e. type_of x) (as_value x) ≡ Some t)
   own_there x at never = by (as_value x) refl (as_value_decided at x)
     where
-      by : (o : Option Ex) → as_value x ≡ o → Decided o (IsFault (range_fault at (Some x))) → (t : ValueType) × (type_of x ≡ Some t) × (option_and_then (λ e. type_of x) (as_value x) ≡ Some t)
+      by : (o : Option Ex) → as_value x ≡ o → Decided o (IsFault (range_fault at (Some x)))
+          → (t : ValueType) × (option_and_then (λ e. type_of x) (as_value x) ≡ Some t)
       by None is d = absurd (never d.0 d.1)
-      by (Some v) is d = let t = typed_value x v is in (t.0, t.1, ap (option_and_then (λ e. type_of x)) is ∙ t.1)
+      by (Some v) is d = let t = typed_value x v is in (t.0, ap (option_and_then (λ e. type_of x)) is ∙ t.1)
 
-  variable_needs : (t v : Option TreeEx) (es : TreeExs) (m k : ℕ) → Never (FailsBefore text (holding s cs) t) → HoldsInitial t v es → option_and_then known_variable (variable_type text (holding s cs) t v es m k) ≡ None → VariableUnknown t v es
+  variable_needs : (t v : Option TreeEx) (es : TreeExs) (m k : ℕ) → Never (FailsBefore text (holding s cs) t)
+      → HoldsInitial t v es → variable_type text (holding s cs) t v es m k ≡ None → VariableUnknown t v es
   variable_needs (Some e) v es m k type_never holds1 is = by (unknown (names_in e))
     where
       by : AllSame text s cs (filled cs) (names_in e) ⊎ Unknown (numbers_of text (holding s cs) (names_in e)) → VariableUnknown (Some e) v es
-      by (inl all) = let t = type_here e all type_never in absurd (never_unknown (stated_type text (holding s cs) e) (first_pos e) t.0 t.1 holds1 is)
+      by (inl all) = let t = type_here e all type_never in absurd (none_some (sym is ∙ t.1))
       by (inr u) = u
   variable_needs None None es m k type_never holds1 is = by (unknown (names_in_each es))
     where
@@ -520,8 +510,7 @@ module _ (text : List ℕ) (s : Scope) (n : ℕ) (formed : IsFormed s.types) (ty
       by (inl all) =
           let x = operand_here e all holds1.1 holds1.2 in
           let t = own_there x.0 (first_pos e) (λ f h. holds1.3 f (subst (λ (o : Option Operand). IsFault (range_fault (first_pos e) o) f) (sym x.1) h)) in
-          absurd (never_unknown (own_type (gives text (holding s cs) e)) (first_pos e) t.0 (ap (option_and_then (λ y. option_and_then (λ v. type_of y) (as_value y))) x.1 ∙ t.2)
-          (λ f h. holds1.4 f (subst (λ (o : Option ValueType). IsFault (left_out_fault o (first_pos e)) f) (ap (option_and_then (λ y. option_and_then (λ v. type_of y) (as_value y))) x.1 ∙ t.2 ∙ sym (ap (option_and_then type_of) x.1 ∙ t.1)) h)) is)
+          absurd (none_some (sym is ∙ ap (option_and_then (λ y. option_and_then (λ v. type_of y) (as_value y))) x.1 ∙ t.1))
       by (inr u) = with_form (Some e) es holds1.0 u
 
   constant_needs : (i : Item) → Never (FailsBefore text (holding s cs) i.type_expr) → Holds i.type_expr i.value i.values → given_by text (holding s cs) i.type_expr i.value ≡ None → Unknown (needed_as text (holding s cs) role.Constant i)
@@ -534,8 +523,14 @@ module _ (text : List ℕ) (s : Scope) (n : ℕ) (formed : IsFormed s.types) (ty
   needs_as : (r : Role) (i : Item) → Never (FailsBefore text (holding s cs) i.type_expr) → HoldsAs r i.type_expr i.value i.values → given_as text r (holding s cs) i ≡ None → Unknown (needed_as text (holding s cs) r i)
   needs_as role.Constant i type_never holds1 is = constant_needs i type_never holds1 (no_map known_as.Constant (given_by text (holding s cs) i.type_expr i.value) is)
   needs_as role.Variable i type_never holds1 is =
-      by i.type_expr (variable_needs i.type_expr i.value i.values (length i.names) i.place type_never holds1 is)
+      by i.type_expr (variable_needs i.type_expr i.value i.values (length i.names) i.place type_never holds1 unknown_type)
     where
+      found : Option ValueType
+      found = variable_type text (holding s cs) i.type_expr i.value i.values (length i.names) i.place
+
+      unknown_type : found ≡ None
+      unknown_type = no_map known_as.Variable found is
+
       by : (t : Option TreeEx) → VariableUnknown t i.value i.values → Unknown (needed_for text (holding s cs) t i)
       by None u = u
       by (Some t) u = u

@@ -34,16 +34,11 @@ use Rattle.expression_types.specs.Typing.{Gives, one, called, asking, printed, g
 use Rattle.expression_types.proofs.Held.{operand_held}
 use Rattle.package_values.specs.declared.items.Role.{Role}
 use Rattle.package_values.specs.declared.items.Role.TheVariants as role
-use Rattle.package_values.specs.Values.{Item, as_constant, constant_in, with_type, known_variable, is_variable_type, accepted, given_by, initial_type, variable_type, given_as, given, look, looks}
+use Rattle.package_values.specs.Values.{Item, as_constant, constant_in, with_type, accepted, given_by, initial_type, variable_type, given_as, given, look, looks}
 use Rattle.package_values.proofs.Growth.{known, Within, renewed, rounds}
 use Rattle.package_values.proofs.Holding.{holding, select_same, part_same, literal_same}
 use Rattle.package_values.proofs.Literals.{AllPlaced, literal_typed, literal_placed, placed_alike}
 use Rattle.package_values.proofs.Stays.{Stays, map_stays, then_stays, both_stay}
-
--- a variable is of a type whose variables have rules
-abbrev pub HasRules : Known → Type 0
-HasRules (known_as.Constant f) = Unit {0}
-HasRules (known_as.Variable t) = is_variable_type t ≡ true
 
 -- ---- what is given stays so where more is known
 
@@ -277,8 +272,8 @@ module _ (text : List ℕ) (s : Scope) where
         let p = map_some known_as.Constant (given_by text (holding s cs) i.type_expr i.value) x h in ap (option_map known_as.Constant) (given_still i.type_expr i.value p.0 p.1) ∙ ap Some p.2
     still_as role.Variable i x h =
         let n = length i.names in
-        let p = and_then_some known_variable (variable_type text (holding s cs) i.type_expr i.value i.values n i.place) x h in
-        ap (option_and_then known_variable) (variable_still i.type_expr i.value i.values n i.place p.0 p.1) ∙ p.2
+        let p = map_some known_as.Variable (variable_type text (holding s cs) i.type_expr i.value i.values n i.place) x h in
+        ap (option_map known_as.Variable) (variable_still i.type_expr i.value i.values n i.place p.0 p.1) ∙ ap Some p.2
 
   pub monotone : (cs ds : List (Option Known)) → Within cs ds → (i : Item) (x : Known) → give cs i ≡ Some x → give ds i ≡ Some x
   monotone cs ds within i x h = still_as cs ds within i.role i x h
@@ -315,28 +310,15 @@ module _ (text : List ℕ) (s : Scope) where
       let p = and_then_some (accepted text (holding s cs) t) (constant_in (gives text (holding s cs) e)) f is in
       accepted_held cs t p.0 f (operand_held text (holding s cs) (λ n x h. name_held cs sound (declaration s n) x h) e (constant p.0) (a_constant (operand_in (gives text (holding s cs) e)) p.0 p.1)) p.2
 
-  pub variable_known : (t : ValueType) (x : Known) → known_variable t ≡ Some x → (is_variable_type t ≡ true) × (known_as.Variable t ≡ x)
-  variable_known t x is = let p = allowed_gives (is_variable_type t) (Some (known_as.Variable t)) x is in (p.0, same_some p.1)
-
   sound_as : (cs : List (Option Known)) → AreSound cs → (r : Role) (i : Item) (x : Known) → given_as text r (holding s cs) i ≡ Some x → IsSound x
   sound_as cs sound role.Constant i x is =
       let p = map_some known_as.Constant (given_by text (holding s cs) i.type_expr i.value) x is in subst IsSound p.2 (by_value cs sound i.type_expr i.value p.0 p.1)
   sound_as cs sound role.Variable i x is =
-      let p = and_then_some known_variable (variable_type text (holding s cs) i.type_expr i.value i.values (length i.names) i.place) x is in subst IsSound (variable_known p.0 x p.2).1 tt
+      let found = variable_type text (holding s cs) i.type_expr i.value i.values (length i.names) i.place in
+      let p = map_some known_as.Variable found x is in subst IsSound p.2 tt
 
   pub given_sound : (cs : List (Option Known)) → AreSound cs → (i : Item) (x : Known) → give cs i ≡ Some x → IsSound x
   given_sound cs sound i x is = sound_as cs sound i.role i x is
-
-  -- ---- a variable that is known is of a type with rules
-
-  rules_as : (r : Role) (i : Item) (x : Known) → given_as text r s i ≡ Some x → HasRules x
-  rules_as role.Constant i x is = let p = map_some known_as.Constant (given_by text s i.type_expr i.value) x is in subst HasRules p.2 tt
-  rules_as role.Variable i x is =
-      let p = and_then_some known_variable (variable_type text s i.type_expr i.value i.values (length i.names) i.place) x is in
-      let q = variable_known p.0 x p.2 in subst HasRules q.1 q.0
-
-  pub given_rules : (i : Item) (x : Known) → given text s i ≡ Some x → HasRules x
-  given_rules i x is = rules_as i.role i x is
 
   -- looks change the constants alone
   pub look_is : (k : ℕ) (cs : List (Option Known)) (is : List Item) → look text k (holding s cs) is ≡ holding s (renewed give monotone k cs is)

@@ -1,7 +1,7 @@
 -- Where the declarations of constants and variables are those of an accepted package, no rule of them fails but that none needs itself.
 use Rattle.std.proofs.Common.{◌≡◌, ℕ, suc, ◌<◌, Bool, true, false, cond, List, [], ◌∷◌, length, ◌⊎◌, inl, inr, Option, Some, None, refl, sym, ap, ◌∙◌, subst, arith}
 use Rattle.std.proofs.lemmas.Bool.{eq-eqb}
-use Rattle.std.specs.Prelude.{option_and_then, is_some, ◌&&◌}
+use Rattle.std.specs.Prelude.{is_some, ◌&&◌}
 use Rattle.std.specs.List.{AllByRecursion}
 use Rattle.base.specs.declared.pos.Pos.{Pos}
 use Rattle.base.specs.Types.{same_type}
@@ -9,30 +9,29 @@ use Rattle.syntax.specs.FirstBytes.{first_pos}
 use Rattle.syntax.specs.Expressions.{Ex as TreeEx, Exs as TreeExs, none, some}
 use Rattle.syntax.specs.Statements.{ValueSpec}
 use Rattle.syntax.specs.Declarations.{Declaration, constants, variables, types, function}
-use Rattle.typed_syntax.specs.Syntax.{Ex}
 use Rattle.typed.specs.Formed.{IsFormed}
 use Rattle.type_faults.specs.declared.fault.Fault.{Fault}
-use Rattle.type_faults.specs.declared.fault.FaultKind.TheVariants.{Redeclared, Mismatch, WrongCount, ConstRange, OutOfProfile}
+use Rattle.type_faults.specs.declared.fault.FaultKind.TheVariants.{Redeclared, Mismatch, WrongCount, ConstRange}
 use Rattle.type_faults.specs.Faults.{fault, IsFault}
 use Rattle.type_faults.proofs.Decided.{Decided}
 use Rattle.type_faults.proofs.Options.{and_then_some, none_some, same_some}
 use Rattle.base.specs.declared.value_type.ValueType.{ValueType}
 use Rattle.constants.specs.declared.constant.Fixed.{Fixed}
 use Rattle.constants.specs.Constants.{constant_type, holds}
-use Rattle.operators.specs.Operands.{Operand, constant, type_of, as_value}
+use Rattle.operators.specs.Operands.{Operand, constant}
 use Rattle.names.specs.declared.scope.Declared.{Declared}
 use Rattle.names.specs.Scope.{Scope}
 use Rattle.names.specs.declared.scope.Known.{Known}
 use Rattle.names.proofs.Settled.{AreSound, IsKnown, IsTyped, IsSettled}
-use Rattle.expression_types.specs.Typing.{operand_in, type_in_one, own_type, are_single, taken, spec_wanted, gives, stated_type, seen}
+use Rattle.expression_types.specs.Typing.{operand_in, are_single, taken, spec_wanted, gives, stated_type, seen}
 use Rattle.expression_types.specs.Faults.{CountFails, SinglesFail, TakeFails, Fails, StatedFails, FailsInEach, FailsBefore, FailsAsOperand}
 use Rattle.expression_types.proofs.DecidedValues.{operand_decided, take_decided}
 use Rattle.expression_types.proofs.Settled.{gives_decided, stated_decided, seen_decided}
 use Rattle.expression_types.proofs.Places.{spec_asks}
-use Rattle.package_values.specs.Values.{Item, items_in, constant_in, is_variable_type, with_type, accepted, given_by, settled}
+use Rattle.package_values.specs.Values.{Item, items_in, constant_in, with_type, accepted, given_by, settled}
 use Rattle.package_values.specs.Needs.{has_form, have_form}
-use Rattle.package_values.specs.ValueFaults.{is_this_value, value_fault, value_name_fault, single_count, ValuesFail, is_bare, type_asked, SpecFails, SpecsFail, form_fault, FormsFail, left_out_fault, ValuesLeftOut, LeftOut, InitialsFail, VariablesFail, AllVariablesFail, DeclarationsFail, NamesFail}
-use Rattle.package_values.specs.Accepted.{TypeIs, ConstantValuesAre, ConstantsAre, AllConstantsAre, OwnTypesAre, VariableTypesAre, InitialsAre, VariablesAre, AllVariablesAre, SpecsAre, NamesAre, DeclarationsAre}
+use Rattle.package_values.specs.ValueFaults.{is_this_value, value_fault, value_name_fault, single_count, ValuesFail, is_bare, type_asked, SpecFails, SpecsFail, form_fault, FormsFail, InitialsFail, VariablesFail, AllVariablesFail, DeclarationsFail, NamesFail}
+use Rattle.package_values.specs.Accepted.{TypeIs, ConstantValuesAre, ConstantsAre, AllConstantsAre, VariableTypesAre, InitialsAre, VariablesAre, AllVariablesAre, SpecsAre, NamesAre, DeclarationsAre}
 use Rattle.package_values.proofs.Growth.{known, rounds_many}
 use Rattle.package_values.proofs.Holding.{holding}
 use Rattle.package_values.proofs.Giving.{give, monotone, a_constant, allowed_gives, looks_are}
@@ -45,10 +44,6 @@ Never P = (f : Fault) → P f → ⊥
 given_never : {A : Type 0} (o : Option A) (x : A) (P : Fault → Type 0) → o ≡ Some x → Decided o P → Never P
 given_never None x P is d = absurd (none_some is)
 given_never (Some y) x P is d = d
-
-plain_never : (o : Option ValueType) (t : ValueType) (at : Pos) → o ≡ Some t → is_variable_type t ≡ true → Never (IsFault (left_out_fault o at))
-plain_never o t at is plain f h =
-    let here = subst (λ (x : Option ValueType). IsFault (left_out_fault x at) f) is h in subst (λ (b : Bool). IsFault (cond b None (Some (fault OutOfProfile at))) f) plain here
 
 both_true : (a b : Bool) → (a && b) ≡ true → (a ≡ true) × (b ≡ true)
 both_true true b is = (refl, is)
@@ -138,21 +133,6 @@ module _ (text : List ℕ) (r : Scope) (settled1 : IsSettled r) where
   forms_never (some e es) is f (inl h) = let p = both_true (has_form text r e) (have_form text r es) is in subst (λ (b : Bool). IsFault (form_fault b (first_pos e)) f) p.0 h
   forms_never (some e es) is f (inr h) = let p = both_true (has_form text r e) (have_form text r es) is in forms_never es p.1 f h
 
-  own_never : (e : TreeEx) (t : ValueType) → own_type (gives text r e) ≡ Some t → is_variable_type t ≡ true → Never (IsFault (left_out_fault (type_in_one (gives text r e)) (first_pos e)))
-  own_never e t is plain =
-      let p = and_then_some (λ x. option_and_then (λ v. type_of x) (as_value x)) (operand_in (gives text r e)) t is in
-      let q = and_then_some (λ (v : Ex). type_of p.0) (as_value p.0) t p.2 in
-      plain_never (type_in_one (gives text r e)) t (first_pos e) (ap (option_and_then type_of) p.1 ∙ q.2) plain
-
-  owns_never : (es : TreeExs) → OwnTypesAre text r es → Never (ValuesLeftOut (seen text r es))
-  owns_never none are f h = h
-  owns_never (some e es) are f (inl h) = own_never e are.0.0 are.0.1 are.0.2 f h
-  owns_never (some e es) are f (inr h) = owns_never es are.1 f h
-
-  left_never : (t : Option TreeEx) (es : TreeExs) → VariableTypesAre text r t es → Never (LeftOut text r t (seen text r es))
-  left_never None es are = owns_never es are
-  left_never (Some e) es are = plain_never (stated_type text r e) are.0 (first_pos e) are.1 are.2
-
   variable_type_never : (t : Option TreeEx) (es : TreeExs) → VariableTypesAre text r t es → Never (FailsBefore text r t)
   variable_type_never None es are f h = h
   variable_type_never (Some e) es are f h = type_never e are.0 are.1 f h
@@ -183,10 +163,9 @@ module _ (text : List ℕ) (r : Scope) (settled1 : IsSettled r) where
   initials_never false at v typed b_is (inr are) f (inr h) = forms_never v.values are.form f h
 
   variables_never : (at : Pos) (v : ValueSpec) → VariablesAre text r v → Never (VariablesFail text r at v)
-  variables_never at v are f (inl (inl (inl h))) = variable_type_never v.type_expr v.values are.types_are f h
-  variables_never at v are f (inl (inl (inr h))) = each_never at v are.types_are are.values f h
-  variables_never at v are f (inl (inr h)) = initials_never (is_bare v.type_expr v.values) at v are.types_are refl are.values f h
-  variables_never at v are f (inr h) = left_never v.type_expr v.values are.types_are f h
+  variables_never at v are f (inl (inl h)) = variable_type_never v.type_expr v.values are.types_are f h
+  variables_never at v are f (inl (inr h)) = each_never at v are.types_are are.values f h
+  variables_never at v are f (inr h) = initials_never (is_bare v.type_expr v.values) at v are.types_are refl are.values f h
 
   all_variables_never : (at : Pos) (vs : List ValueSpec) → AllVariablesAre text r vs → Never (AllVariablesFail text r at vs)
   all_variables_never at [] are f h = h

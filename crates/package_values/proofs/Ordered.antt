@@ -33,7 +33,7 @@ use Rattle.operand_parts.specs.Literals.{elided, type_elided}
 use Rattle.expression_types.specs.Typing.{Gives, one, global_read, constant_read, name_operand, prefix_gives, single, operand_in, own_type, Many, many, Seen, called_with, spread_over, callee, callee_declared, literal_gives, gives, stated_type, placed, seen}
 use Rattle.package_values.specs.declared.items.Role.{Role}
 use Rattle.package_values.specs.declared.items.Role.TheVariants as role
-use Rattle.package_values.specs.Values.{Item, as_constant, constant_in, with_type, known_variable, accepted, given_by, variable_type, given_as, settled}
+use Rattle.package_values.specs.Values.{Item, as_constant, constant_in, with_type, accepted, given_by, variable_type, given_as, settled}
 use Rattle.package_values.specs.Needs.{names_in, names_in_each, names_in_elements, names_in_some, names_waited, value_number, also, numbers_of, variable_mentions, mentions_as, mentions, mentioned}
 use Rattle.package_values.specs.Laws.{HasValue, follows, HoldsValues}
 use Rattle.package_values.specs.Passing.{each_given, all_given}
@@ -247,7 +247,8 @@ module _ (text : List ℕ) (s : Scope) where
     item_known : (r : Role) (i : Item) (x : Known) → given_as text r (holding s cs) i ≡ Some x → AllKnown cs (mentions_as r i)
     item_known role.Constant i x h = let p = map_some known_as.Constant (given_by text (holding s cs) i.type_expr i.value) x h in constant_known i.type_expr i.value i.values p.0 p.1
     item_known role.Variable i x h =
-        let p = and_then_some known_variable (variable_type text (holding s cs) i.type_expr i.value i.values (length i.names) i.place) x h in
+        let found = variable_type text (holding s cs) i.type_expr i.value i.values (length i.names) i.place in
+        let p = map_some known_as.Variable found x h in
         variable_known i.type_expr i.value i.values (length i.names) i.place p.0 p.1
 
   -- ---- where all that it names is the same, it gives the same
@@ -274,7 +275,8 @@ module _ (text : List ℕ) (s : Scope) where
 
     item_same : (r : Role) (i : Item) → AllSame text s cs ds (mentions_as r i) → given_as text r (holding s cs) i ≡ given_as text r (holding s ds) i
     item_same role.Constant i all = ap (option_map known_as.Constant) (constant_same i.type_expr i.value i.values all)
-    item_same role.Variable i all = ap (option_and_then known_variable) (variable_same i.type_expr i.value i.values (length i.names) i.place all)
+    item_same role.Variable i all =
+        ap (option_map known_as.Variable) (variable_same i.type_expr i.value i.values (length i.names) i.place all)
 
   -- ---- the pass
 

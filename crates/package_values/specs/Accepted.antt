@@ -15,7 +15,7 @@ use Rattle.names.specs.Scope.{Scope, declaration, known}
 use Rattle.expression_types.specs.Typing.{own_type, taken, spec_wanted, gives, stated_type, seen}
 use Rattle.package_values.specs.declared.items.Role.{Role}
 use Rattle.package_values.specs.declared.items.Role.TheVariants as role
-use Rattle.package_values.specs.Values.{Item, items_in, is_variable_type, given_by, variable_type}
+use Rattle.package_values.specs.Values.{Item, items_in, given_by, variable_type}
 use Rattle.package_values.specs.Needs.{have_form}
 use Rattle.package_values.specs.ValueFaults.{is_this_value, is_bare}
 
@@ -46,12 +46,12 @@ module _ (text : List ℕ) (s : Scope) where
   -- each value has a type by itself
   abbrev pub OwnTypesAre : TreeExs → Type 0
   OwnTypesAre none = Unit {0}
-  OwnTypesAre (some e es) = ((t : ValueType) × (own_type (gives text s e) ≡ Some t) × (is_variable_type t ≡ true)) × OwnTypesAre es
+  OwnTypesAre (some e es) = ((t : ValueType) × (own_type (gives text s e) ≡ Some t)) × OwnTypesAre es
 
-  -- the type that stands there, or else those of the values: one whose variables have rules
+  -- the type that stands there, or else those of the values
   abbrev pub VariableTypesAre : Option TreeEx → TreeExs → Type 0
   VariableTypesAre None es = OwnTypesAre es
-  VariableTypesAre (Some e) es = (t : ValueType) × (stated_type text s e ≡ Some t) × (is_variable_type t ≡ true)
+  VariableTypesAre (Some e) es = (t : ValueType) × (stated_type text s e ≡ Some t)
 
   -- values of the form of constants, as many as names, each assignable to the type that stands there
   pub record InitialsAre (v : ValueSpec) : Type 0 where
@@ -89,7 +89,8 @@ module _ (text : List ℕ) (s : Scope) where
   abbrev pub IsGiven : Role → Item → Known → Type 0
   IsGiven role.Constant i x = (f : Fixed) × (x ≡ known_as.Constant f) × (given_by text s i.type_expr i.value ≡ Some f)
   IsGiven role.Variable i x =
-      (t : ValueType) × (x ≡ known_as.Variable t) × (variable_type text s i.type_expr i.value i.values (length i.names) i.place ≡ Some t) × (is_variable_type t ≡ true)
+      (t : ValueType) × (x ≡ known_as.Variable t)
+      × (variable_type text s i.type_expr i.value i.values (length i.names) i.place ≡ Some t)
 
   pub record DeclarationsAre (ds : List Declaration) : Type 0 where
     pub specs : SpecsAre ds

@@ -19,11 +19,11 @@ use Rattle.names.specs.declared.scope.Declared.{Declared}
 use Rattle.names.specs.declared.scope.Declared.TheVariants.{Constant, Global}
 use Rattle.names.specs.Universe.{is_blank}
 use Rattle.names.specs.Scope.{Scope, declaration}
-use Rattle.expression_types.specs.Typing.{wanted_by, accepts_operand, operand_in, type_in_one, Seen, are_single, spec_wanted, stated_type, seen}
+use Rattle.expression_types.specs.Typing.{wanted_by, accepts_operand, operand_in, Seen, are_single, spec_wanted, stated_type, seen}
 use Rattle.expression_types.specs.Faults.{SinglesFail, CountFails, TakeFails, FailsInEach, FailsBefore}
 use Rattle.package_values.specs.declared.items.Role.{Role}
 use Rattle.package_values.specs.declared.items.Role.TheVariants as role
-use Rattle.package_values.specs.Values.{Item, items_in, is_variable_type}
+use Rattle.package_values.specs.Values.{Item, items_in}
 use Rattle.package_values.specs.Needs.{has_form, Reaches}
 
 -- how many values there are, where each gives one
@@ -58,21 +58,6 @@ value_name_fault k false false d pos = if is_this_value k d then None else Some 
 -- a value that begins a variable has the form of a constant
 abbrev pub form_fault : Bool → Pos → Option Fault
 form_fault has_form pos = if has_form then None else Some (fault OutOfProfile pos)
-
--- a variable of a type whose variables have no rules
-abbrev pub left_out_fault : Option ValueType → Pos → Option Fault
-left_out_fault None pos = None
-left_out_fault (Some t) pos = if is_variable_type t then None else Some (fault OutOfProfile pos)
-
--- such values, which have no type beside them
-abbrev pub ValuesLeftOut : List Seen → Fault → Type 0
-ValuesLeftOut [] f = ⊥
-ValuesLeftOut (o ∷ os) f = IsFault (left_out_fault (type_in_one o.gives) o.at) f ⊎ ValuesLeftOut os f
-
--- variables of such a type: at the type that stands there, or at a value without one
-abbrev pub LeftOutBefore : Option TreeEx → Option ValueType → List Seen → Fault → Type 0
-LeftOutBefore None t os f = ValuesLeftOut os f
-LeftOutBefore (Some e) t os f = IsFault (left_out_fault t (first_pos e)) f
 
 -- a variable with a type begins with its zero value where no values stand there
 abbrev pub is_bare : Option TreeEx → TreeExs → Bool
@@ -117,14 +102,11 @@ module _ (text : List ℕ) (s : Scope) where
   InitialsFail true pos v f = ⊥
   InitialsFail false pos v f = TakeFails (fault WrongCount pos) (spec_wanted text s v) (seen text s v.values) f ⊎ FormsFail v.values f
 
-  -- variables of such a type
-  abbrev pub LeftOut : Option TreeEx → List Seen → Fault → Type 0
-  LeftOut o os f = LeftOutBefore o (type_asked o) os f
-
   -- one declaration of a `var`, whose word stands at a place: its type, its values, their number and their form
   abbrev pub VariablesFail : Pos → ValueSpec → Fault → Type 0
   VariablesFail pos v f =
-      ((FailsBefore text s v.type_expr f ⊎ FailsInEach text s v.values f) ⊎ InitialsFail (is_bare v.type_expr v.values) pos v f) ⊎ LeftOut v.type_expr (seen text s v.values) f
+      (FailsBefore text s v.type_expr f ⊎ FailsInEach text s v.values f)
+      ⊎ InitialsFail (is_bare v.type_expr v.values) pos v f
 
   abbrev pub AllVariablesFail : Pos → List ValueSpec → Fault → Type 0
   AllVariablesFail pos [] f = ⊥

@@ -1,7 +1,7 @@
 -- The constants and the package variables of a package, and what is known of them: the values of constants and the types of variables (Go
 -- specification, "Constant declarations", "Constant expressions", "Representability", "Variable declarations"). Their order in the text is
 -- free: one may stand before those that its value names.
-use Rattle.std.specs.Prelude.{ℕ, zero, suc, ◌+◌, Bool, true, false, slice_get, length, ◌==◌, ◌&&◌, List, [], ◌∷◌, ◌++◌, Option, Some, None, option_and_then}
+use Rattle.std.specs.Prelude.{ℕ, zero, suc, ◌+◌, slice_get, length, ◌==◌, ◌&&◌, List, [], ◌∷◌, ◌++◌, Option, Some, None, option_and_then}
 use Rattle.std.specs.Option.{option_map}
 use Rattle.syntax.specs.declared.expression.Name.{Name}
 use Rattle.syntax.specs.Expressions.{Ex as TreeEx, Exs as TreeExs, none, some}
@@ -9,7 +9,6 @@ use Rattle.syntax.specs.Statements.{ValueSpec}
 use Rattle.syntax.specs.Declarations.{Declaration, constants, variables, types, function}
 use Rattle.constants.specs.declared.constant.Fixed.{Fixed}
 use Rattle.base.specs.declared.value_type.ValueType.{ValueType}
-use Rattle.base.specs.declared.value_type.ValueType.TheVariants.{Int, Bool as Boolean}
 use Rattle.type_faults.specs.Given.{allowed}
 use Rattle.base.specs.Types.{same_type}
 use Rattle.constants.specs.Constants.{constant_type, holds}
@@ -65,16 +64,6 @@ items_in (function f ∷ ds) = items_in ds
 
 -- ---- values
 
--- the types of which package variables have rules; the others are left out
-abbrev pub is_variable_type : ValueType → Bool
-is_variable_type Int = true
-is_variable_type Boolean = true
-is_variable_type other = false
-
--- what is known of a variable of a type
-abbrev pub known_variable : ValueType → Option Known
-known_variable t = allowed (is_variable_type t) (Some (known_as.Variable t))
-
 -- what gives a constant
 abbrev pub as_constant : Operand → Option Fixed
 as_constant (constant f) = Some f
@@ -117,7 +106,8 @@ module _ (text : List ℕ) where
   -- what is known of one of them then
   abbrev pub given_as : Role → Scope → Item → Option Known
   given_as role.Constant s i = option_map known_as.Constant (given_by s i.type_expr i.value)
-  given_as role.Variable s i = option_and_then known_variable (variable_type s i.type_expr i.value i.values (length i.names) i.place)
+  given_as role.Variable s i =
+      option_map known_as.Variable (variable_type s i.type_expr i.value i.values (length i.names) i.place)
 
   abbrev pub given : Scope → Item → Option Known
   given s i = given_as i.role s i

@@ -13,17 +13,17 @@ ghost use Rattle.names.specs.Scope.{scope_of, declaration};
 ghost use Rattle.expression_types.specs.Typing.{operand_in, seen, stated_type};
 ghost use Rattle.expression_types.specs.Faults.{SinglesFail, CountFails, FailsInEach};
 ghost use Rattle.expression_types.specs.Passing.{gives_of, seens, type_before};
-ghost use Rattle.package_values.specs.ValueFaults.{single_count, fitting_value_fault, value_fault, ValuesFail, is_this_value, value_name_fault, asked_before, SpecFails, SpecsFail, form_fault, FormsFail, left_out_fault, ValuesLeftOut, LeftOutBefore, is_bare, InitialsFail, VariablesFail, AllVariablesFail, first_of, cycle_place, DeclarationsFail, NamesFail, Recurs, ItemsFail};
+ghost use Rattle.package_values.specs.ValueFaults.{single_count, fitting_value_fault, value_fault, ValuesFail, is_this_value, value_name_fault, asked_before, SpecFails, SpecsFail, form_fault, FormsFail, is_bare, InitialsFail, VariablesFail, AllVariablesFail, first_of, cycle_place, DeclarationsFail, NamesFail, Recurs, ItemsFail};
 ghost use Rattle.package_values.specs.Passing.{item_views, DeclarationFails, recursion_fault, is_marked};
 
 use crate::items::{Item, Role, items_in};
 use crate::needs::{has_form, needs};
-use crate::values::{constant_in, is_variable_type};
+use crate::values::constant_in;
 use base::{NoMemory, Pos, ValueType};
 use components::strong_components;
 use expression_types::{
     Stated, agrees, are_single, check_before, check_list, count_fault, fault_before, is_single,
-    one_type, singles_fault, spec_wanted, take_fault, wanted_by,
+    singles_fault, spec_wanted, take_fault, wanted_by,
 };
 use names::{Declared, Scope, is_blank, spelled};
 use operators::held_fault;
@@ -151,45 +151,6 @@ fn forms_fault(text: &[u8], scope: &Scope, values: &[Expr]) -> Option<Fault>
     fault
 }
 
-/// The fault of a variable of a type whose variables have no rules.
-fn left_out_fault(value_type: Option<ValueType>, pos: Pos) -> Option<Fault>
-    ensures { result ≡ left_out_fault value_type pos }
-{
-    match value_type {
-        Some(value_type) if !is_variable_type(value_type) => Some(Fault {
-            kind: FaultKind::OutOfProfile,
-            pos,
-        }),
-        _ => None,
-    }
-}
-
-/// The fault of values of such types, which have no type beside them.
-fn values_left_out(items: &[expression_types::Item]) -> Option<Fault>
-    ensures { IsLeast (ValuesLeftOut (seens items.now)) result }
-{
-    let mut fault = None;
-    for item in items {
-        fault = lesser(fault, left_out_fault(one_type(&item.gives), item.pos));
-    }
-    fault
-}
-
-/// The fault of variables of such types: at the type that stands there, or at a value without one.
-#[tactic(auto, using(type_faults::proofs::Leasts::leaf))]
-fn left_out(
-    type_expr: &Option<Expr>,
-    value_type: Option<ValueType>,
-    items: &[expression_types::Item],
-) -> Option<Fault>
-    ensures { IsLeast (LeftOutBefore (ex_in type_expr.now) value_type (seens items.now)) result }
-{
-    match type_expr {
-        Some(e) => left_out_fault(value_type, e.pos()),
-        None => values_left_out(items),
-    }
-}
-
 /// Whether a variable begins with the zero value of the type that stands there.
 fn is_bare(type_expr: &Option<Expr>, values: &[Expr]) -> bool
     ensures { result ≡ is_bare (ex_in type_expr.now) (exs_of values.now) }
@@ -226,7 +187,7 @@ fn initials_fault(
     Ok(lesser(taken, forms_fault(text, scope, &spec.values)))
 }
 
-/// The fault of one declaration of a `var` whose word stands at a place: of its type, its values, their number and their form, or of variables of a type that is left out.
+/// The fault of one declaration of a `var` whose word stands at a place: of its type, its values, their number and their form.
 fn variables_fault(
     alloc: Global,
     text: &[u8],
@@ -240,8 +201,7 @@ fn variables_fault(
     let listed = check_list(alloc, text, scope, &spec.values)?;
     let initials = initials_fault(alloc, text, scope, pos, spec, &stated, &listed.items)?;
     let typed = lesser(fault_before(&stated), listed.fault);
-    let others = left_out(&spec.type_expr, type_asked(&stated), &listed.items);
-    Ok(lesser(lesser(typed, initials), others))
+    Ok(lesser(typed, initials))
 }
 
 /// The fault of the declarations of a `var` whose word stands at a place.

@@ -7,10 +7,10 @@ ghost use Rattle.syntax.specs.Declarations.{declarations_of};
 ghost use Rattle.type_faults.specs.Given.{allowed};
 ghost use Rattle.components.specs.Components.{component_lists};
 ghost use Rattle.names.specs.Scope.{scope_of, known};
-ghost use Rattle.names.specs.declared.scope.Known.TheVariants.{Constant as ConstantKnown};
+ghost use Rattle.names.specs.declared.scope.Known.TheVariants.{Constant as ConstantKnown, Variable as VariableKnown};
 ghost use Rattle.expression_types.specs.Typing.{many};
 ghost use Rattle.expression_types.specs.Passing.{gives_of, seens, type_before};
-ghost use Rattle.package_values.specs.Values.{constant_in, with_type, accepted_before, given_by, is_variable_type, known_variable, initial_type, variable_type, given, settled, items_in};
+ghost use Rattle.package_values.specs.Values.{constant_in, with_type, accepted_before, given_by, initial_type, variable_type, given, settled, items_in};
 ghost use Rattle.package_values.specs.Passing.{item_of, item_views, given_at, each_given, all_given};
 
 use crate::items::{Item, Role, items_in};
@@ -84,24 +84,6 @@ fn constant_value(
             Ok(accepted(&stated, fixed))
         }
         None => Ok(None),
-    }
-}
-
-/// Whether package variables of a type have rules; those of other types are left out.
-pub fn is_variable_type(value_type: ValueType) -> bool
-    ensures { result ≡ is_variable_type value_type }
-{
-    matches!(value_type, ValueType::Int | ValueType::Bool)
-}
-
-/// What is known of a variable of a type.
-fn known_variable(value_type: ValueType) -> Option<Known>
-    ensures { result ≡ known_variable value_type }
-{
-    if is_variable_type(value_type) {
-        Some(Known::Variable(value_type))
-    } else {
-        None
     }
 }
 
@@ -194,10 +176,12 @@ fn variable_known(
     scope: &Scope,
     item: &Item,
 ) -> Result<Option<Known>, NoMemory>
-    ensures { IfOk result (λ r. r ≡ option_and_then known_variable (variable_type text.now (scope_of scope.now) (item_of item.now).type_expr (item_of item.now).value (item_of item.now).values (length (item_of item.now).names) (item_of item.now).place)) }
+    ensures { IfOk result (λ r. r ≡ option_map VariableKnown
+        (variable_type text.now (scope_of scope.now) (item_of item.now).type_expr (item_of item.now).value
+        (item_of item.now).values (length (item_of item.now).names) (item_of item.now).place)) }
 {
     match variable_type(alloc, text, scope, item)? {
-        Some(value_type) => Ok(known_variable(value_type)),
+        Some(value_type) => Ok(Some(Known::Variable(value_type))),
         None => Ok(None),
     }
 }

@@ -2,15 +2,14 @@ use Rattle.std.proofs.Common.{◌≡◌, ◌⊎◌, List, Option, sym, ap, ◌�
 use Rattle.syntax.specs.declared.expression.Expr.{Expr}
 use Rattle.syntax.specs.Expressions.{exs_of}
 use Rattle.syntax.specs.Statements.{value_spec_of}
-use Rattle.base.specs.declared.value_type.ValueType.{ValueType}
 use Rattle.type_faults.specs.declared.fault.Fault.{Fault}
 use Rattle.type_faults.specs.Least.{IsLeast}
 use Rattle.type_faults.proofs.Leasts.{least_join}
 use Rattle.names.specs.Scope.{scope_of}
-use Rattle.expression_types.specs.Typing.{Seen, seen}
+use Rattle.expression_types.specs.Typing.{seen}
 use Rattle.expression_types.specs.Faults.{FailsInEach, FailsBefore}
 use Rattle.expression_types.specs.Passing.{seens}
-use Rattle.package_values.specs.ValueFaults.{is_bare, asked_before, type_asked, LeftOutBefore, LeftOut, InitialsFail}
+use Rattle.package_values.specs.ValueFaults.{is_bare, InitialsFail}
 use Rattle.package_values.proofs.faults.variables_fault.Goals as goal
 
 pub initials_fault-requires-clause-values : goal.initials_fault-requires-clause-values
@@ -29,12 +28,7 @@ returns c =
     let each : IsLeast (FailsInEach text s v.values) listed.fault = subst (λ (l : List Expr). IsLeast (FailsInEach text s (exs_of l)) listed.fault) es c.in_ok-listed.ensures.fault in
     let typed : IsLeast (FailsBefore text s v.type_expr) c.fault_before.result =
     subst (λ (o : Option Fault). IsLeast (FailsBefore text s v.type_expr) o) (sym c.fault_before.ensures) c.in_ok-stated.ensures.fault in
-    let asked : c.type_asked.result ≡ type_asked text s v.type_expr = c.type_asked.ensures ∙ ap asked_before c.in_ok-stated.ensures.types in
-    let others : IsLeast (LeftOut text s v.type_expr (seen text s v.values)) c.left_out-others.result =
-    subst (λ (o : Option ValueType). IsLeast (LeftOutBefore v.type_expr o (seen text s v.values)) c.left_out-others.result) asked
-    (subst (λ (os : List Seen). IsLeast (LeftOutBefore v.type_expr c.type_asked.result os) c.left_out-others.result)
-    (ap seens c.deref-3.ensures.value ∙ (c.in_ok-listed.ensures.seen ∙ ap (λ (l : List Expr). seen text s (exs_of l)) es)) c.left_out-others.ensures) in
-    rw (c.lesser-2.ensures, c.lesser.ensures, c.lesser-typed.ensures)
-    (least_join (λ f. (FailsBefore text s v.type_expr f ⊎ FailsInEach text s v.values f) ⊎ InitialsFail text s (is_bare v.type_expr v.values) c.args.pos v f) (LeftOut text s v.type_expr (seen text s v.values)) _ _
-    (least_join (λ f. FailsBefore text s v.type_expr f ⊎ FailsInEach text s v.values f) (InitialsFail text s (is_bare v.type_expr v.values) c.args.pos v) _ _
-    (least_join (FailsBefore text s v.type_expr) (FailsInEach text s v.values) _ _ typed each) c.in_ok-initials.ensures) others)
+    rw (c.lesser.ensures, c.lesser-typed.ensures)
+    (least_join (λ f. FailsBefore text s v.type_expr f ⊎ FailsInEach text s v.values f)
+    (InitialsFail text s (is_bare v.type_expr v.values) c.args.pos v) _ _
+    (least_join (FailsBefore text s v.type_expr) (FailsInEach text s v.values) _ _ typed each) c.in_ok-initials.ensures)
