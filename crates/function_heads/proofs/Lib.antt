@@ -1,1 +1,3 @@
+mod Fields
 mod Numbers
+pub mod Open

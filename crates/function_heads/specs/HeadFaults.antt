@@ -1,18 +1,21 @@
 -- Which rules fail in the head of a function and in a declaration at the level of the package, and where each is reported.
-use Rattle.std.specs.Prelude.{ℕ, ◌⊎◌, Bool, true, false, not, List, [], ◌∷◌, Option, Some, None, nat_lt}
+use Rattle.std.specs.Prelude.{ℕ, ◌⊎◌, Bool, true, false, not, List, [], ◌∷◌, Option, Some, None, is_some, nat_lt}
 use Rattle.base.specs.declared.pos.Pos.{Pos}
 use Rattle.syntax.specs.Expressions.{spelled}
 use Rattle.syntax.specs.Declarations.{Function as TreeFunction, Declaration, constants, variables, types}
 use Rattle.syntax.specs.Declarations as tree
 use Rattle.type_faults.specs.declared.fault.Fault.{Fault}
-use Rattle.type_faults.specs.declared.fault.FaultKind.TheVariants.{Redeclared, BadExternal, OutOfProfile, TooLarge}
-use Rattle.type_faults.specs.Faults.{fault, IsFault, FormFails}
+use Rattle.type_faults.specs.declared.fault.FaultKind.TheVariants.{Redeclared, BadExternal, SelfReference, OutOfProfile, TooLarge}
+use Rattle.type_faults.specs.Faults.{fault, IsFault}
 use Rattle.names.specs.declared.scope.Declared.{Declared}
 use Rattle.names.specs.Universe.{is_blank}
 use Rattle.names.specs.Scope.{Scope, Signature, declaration}
-use Rattle.signatures.specs.Signatures.{params_of, is_external, is_external_at, is_init, signature_in}
+use Rattle.expression_types.specs.Faults.{StatedFails}
+use Rattle.signatures.specs.Signatures.{Param, params_of, is_init}
+use Rattle.function_heads.specs.HeadTypes.{signature_in}
+use Rattle.function_heads.specs.PackageBlock.{is_external, is_external_at}
 use Rattle.signatures.specs.Failing.{fault_where}
-use Rattle.signatures.specs.SignatureFaults.{function_name_fault, size_fault, TypesFail}
+use Rattle.signatures.specs.SignatureFaults.{function_name_fault, size_fault}
 use Rattle.function_heads.specs.Heads.{most_functions}
 
 -- no other function than `readInt` and `exit` has no body
@@ -38,6 +41,14 @@ abbrev pub first_byte : Pos
 first_byte = record { offset = 0; line = 1; col = 1 }
 
 module _ (text : List ℕ) where
+  -- in the types of parameters or results, in the package block
+  abbrev pub TypesFail : Scope → List Param → Fault → Type 0
+  TypesFail s [] f = ⊥
+  TypesFail s (p ∷ ps) f = StatedFails text s p.type_expr f ⊎ TypesFail s ps f
+
+  abbrev pub HeadFails : Scope → TreeFunction → Fault → Type 0
+  HeadFails s g f = TypesFail s (params_of g.params) f ⊎ TypesFail s (params_of g.results) f
+
   -- a rule fails in the head of the function of a number, in the package block
   abbrev pub FailsInHead : Scope → ℕ → TreeFunction → Fault → Type 0
   FailsInHead s i g f =
@@ -45,17 +56,26 @@ module _ (text : List ℕ) where
       ⊎ IsFault (fault_where (not (nat_lt i most_functions)) (fault TooLarge g.name.pos)) f
 
 module _ (text : List ℕ) (heads : Scope) where
-  abbrev pub FailsInTypes : TreeFunction → Fault → Type 0
-  FailsInTypes g f = (TypesFail text heads (params_of g.params) f ⊎ TypesFail text heads (params_of g.results) f) ⊎ IsFault (size_fault heads.types (signature_in text heads g) g.name.pos) f
+  -- in the words of its arguments and results
+  abbrev pub FailsInWords : TreeFunction → Fault → Type 0
+  FailsInWords g f = IsFault (size_fault heads.types (signature_in text heads g) g.name.pos) f
 
-  -- a declaration of a form that is left out, or of a function without a body after another of its name
+  -- a declaration of `init`, of a function without a body after another of its name, or with types of which one fails; the other
+  -- declarations have rules of their own
   abbrev pub DeclarationFails : Scope → Declaration → Fault → Type 0
   DeclarationFails s (constants pos specs) f = ⊥
   DeclarationFails s (variables pos specs) f = ⊥
-  DeclarationFails s (types pos specs) f = FormFails pos f
+  DeclarationFails s (types pos specs) f = ⊥
   DeclarationFails s (tree.function g) f =
-      IsFault (init_fault (is_init (spelled text g.name)) g.pos) f ⊎ IsFault (external_name_fault (is_external text heads g) (declaration s (spelled text g.name)) g.name.pos) f
+      (IsFault (init_fault (is_init (spelled text g.name)) g.pos) f
+      ⊎ IsFault (external_name_fault (is_external text heads g) (declaration s (spelled text g.name)) g.name.pos) f)
+      ⊎ HeadFails text s g f
 
   abbrev pub DeclarationsFail : Scope → List Declaration → Fault → Type 0
   DeclarationsFail s [] f = ⊥
   DeclarationsFail s (d ∷ ds) f = DeclarationFails s d f ⊎ DeclarationsFail s ds f
+
+  -- functions of which the types in their heads aren't all known, each at its name
+  abbrev pub HeadsOpen : List TreeFunction → Fault → Type 0
+  HeadsOpen [] f = ⊥
+  HeadsOpen (g ∷ gs) f = IsFault (fault_where (not (is_some (signature_in text heads g))) (fault SelfReference g.name.pos)) f ⊎ HeadsOpen gs f

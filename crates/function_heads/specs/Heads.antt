@@ -1,6 +1,6 @@
 -- What declares a function: its head, its number, and which declarations a package may have (Go specification, "Function
 -- declarations", "Function types").
-use Rattle.std.specs.Prelude.{ℕ, pos, length, ◌==◌, Bool, true, false, not, ◌&&◌, ◌||◌, List, [], ◌∷◌, slice_get, Option, Some, None, nat_lt, if◌then◌else◌}
+use Rattle.std.specs.Prelude.{ℕ, length, ◌==◌, Bool, true, false, not, ◌&&◌, ◌||◌, List, [], ◌∷◌, slice_get, Option, Some, None, nat_lt, if◌then◌else◌}
 use Rattle.syntax.specs.Expressions.{spelled}
 use Rattle.syntax.specs.Declarations.{Function as TreeFunction, Declaration, constants, variables, types}
 use Rattle.syntax.specs.Declarations as tree
@@ -13,7 +13,8 @@ use Rattle.names.specs.declared.scope.Declared.TheVariants.{Function}
 use Rattle.names.specs.Universe.{is_blank}
 use Rattle.names.specs.Scope.{Scope, type_number, declaration}
 use Rattle.signatures.specs.declared.slots.Slot.{Slot}
-use Rattle.signatures.specs.Signatures.{params_of, is_init, may_be_named, is_external_at, is_external}
+use Rattle.signatures.specs.Signatures.{params_of, is_init, may_be_named}
+use Rattle.function_heads.specs.PackageBlock.{is_external_at, is_external}
 
 abbrev pub number_of : Option Declared → Option ℕ
 number_of (Some (Function f)) = Some f.0
@@ -58,12 +59,11 @@ module _ (text : List ℕ) (heads : Scope) where
   functions_in (types at specs ∷ ds) = functions_in ds
   functions_in (tree.function f ∷ ds) = if is_external text heads f then functions_in ds else f ∷ functions_in ds
 
-  -- in the package block: forms that are not left out; no `init`; and a function without a body is the first of its name. Constants and
-  -- variables have rules of their own
+  -- in the package block: no `init`, and a function without a body is the first of its name; the other declarations have rules of their own
   abbrev pub is_supported : Scope → Declaration → Bool
   is_supported s (constants at specs) = true
   is_supported s (variables at specs) = true
-  is_supported s (types at specs) = false
+  is_supported s (types at specs) = true
   is_supported s (tree.function f) = not (is_init (spelled text f.name)) && (not (is_external text heads f) || is_external_at f.name.pos (declaration s (spelled text f.name)))
 
   abbrev pub are_supported : Scope → List Declaration → Bool

@@ -5,18 +5,21 @@ ghost use Rattle.std.specs.Option.{option_map};
 ghost use Rattle.syntax.specs.Expressions.{spelled};
 ghost use Rattle.syntax.specs.Declarations.{function as function_item, function_of, declaration_of, declarations_of};
 ghost use Rattle.type_faults.specs.Least.{IsLeast};
-ghost use Rattle.type_faults.specs.Faults.{fault as fault_at, IsFault, FormFails};
+ghost use Rattle.type_faults.specs.Faults.{fault as fault_at, IsFault};
 ghost use Rattle.type_faults.specs.declared.fault.FaultKind.TheVariants.{NoMain};
 ghost use Rattle.names.specs.Universe.{is_main};
 ghost use Rattle.names.specs.Scope.{scope_of, declaration};
-ghost use Rattle.signatures.specs.Signatures.{is_init, is_external};
+ghost use Rattle.signatures.specs.Signatures.{is_init};
+ghost use Rattle.function_heads.specs.PackageBlock.{is_external};
 ghost use Rattle.function_heads.specs.Heads.{number_of, is_plain, plain_number, functions_in};
 ghost use Rattle.signatures.specs.Failing.{fault_where};
-ghost use Rattle.function_heads.specs.HeadFaults.{init_fault, external_name_fault, DeclarationFails, DeclarationsFail, first_byte};
+ghost use Rattle.function_heads.specs.HeadFaults.{init_fault, external_name_fault, HeadFails, DeclarationFails, DeclarationsFail, first_byte};
 
+use crate::head_types::types_fault;
+use crate::package_block::{is_external, is_external_at};
 use base::{FuncId, NoMemory, Pos};
 use names::{Declared, Scope, is_main, spelled};
-use signatures::{fault_where, has_some, is_external, is_external_at, is_init};
+use signatures::{fault_where, has_some, is_init};
 use std::alloc::Global;
 use syntax::{Decl, Func, Name};
 use type_faults::{Fault, FaultKind, lesser};
@@ -105,17 +108,6 @@ pub fn main_number(
     }
 }
 
-/// The fault of a declaration of a form that is left out.
-#[tactic(auto, using(type_faults::proofs::Leasts::leaf))]
-fn left_out(pos: Pos) -> Option<Fault>
-    ensures { IsLeast (FormFails pos) result }
-{
-    Some(Fault {
-        kind: FaultKind::OutOfProfile,
-        pos,
-    })
-}
-
 /// The fault of the name of a function that may have no body.
 fn external_name_fault(is_external: bool, declared: Option<Declared>, pos: Pos) -> Option<Fault>
     ensures { result ≡ external_name_fault is_external declared pos }
@@ -155,6 +147,20 @@ fn external_fault(
     Ok(external_name_fault(is_external, declared, f.name.pos))
 }
 
+/// The fault of the types of a function's parameters and results.
+fn head_fault(
+    alloc: Global,
+    text: &[u8],
+    scope: &Scope,
+    f: &Func,
+) -> Result<Option<Fault>, NoMemory>
+    ensures { IfOk result (λ r. IsLeast (HeadFails text.now (scope_of scope.now) (function_of f.now)) r) }
+{
+    let params = types_fault(alloc, text, scope, &f.params)?;
+    let results = types_fault(alloc, text, scope, &f.results)?;
+    Ok(lesser(params, results))
+}
+
 /// The fault of a function as a declaration.
 fn function_fault(
     alloc: Global,
@@ -166,7 +172,8 @@ fn function_fault(
     ensures { IfOk result (λ r. IsLeast (DeclarationFails text.now (scope_of heads.now) (scope_of scope.now) (function_item (function_of f.now))) r) }
 {
     let external = external_fault(alloc, text, heads, scope, f)?;
-    Ok(lesser(init_fault(text, f), external))
+    let types = head_fault(alloc, text, scope, f)?;
+    Ok(lesser(lesser(init_fault(text, f), external), types))
 }
 
 /// The fault of a declaration at the level of the package.
@@ -180,8 +187,7 @@ fn declaration_fault(
     ensures { IfOk result (λ r. IsLeast (DeclarationFails text.now (scope_of heads.now) (scope_of scope.now) (declaration_of decl.now)) r) }
 {
     match decl {
-        Decl::Const(_, _) | Decl::Var(_, _) => Ok(None),
-        Decl::Type(pos, _) => Ok(left_out(*pos)),
+        Decl::Const(_, _) | Decl::Var(_, _) | Decl::Type(_, _) => Ok(None),
         Decl::Func(f) => function_fault(alloc, text, heads, scope, f),
     }
 }

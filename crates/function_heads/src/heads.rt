@@ -14,16 +14,17 @@ ghost use Rattle.names.specs.Universe.{is_blank};
 ghost use Rattle.names.specs.Scope.{scope_of, declaration};
 ghost use Rattle.function_heads.specs.Assembled.{assembled, IsAt};
 ghost use Rattle.signatures.specs.Failing.{fault_where};
-ghost use Rattle.signatures.specs.Signatures.{may_be_named, signature_in, is_small};
+ghost use Rattle.signatures.specs.Signatures.{may_be_named, is_small};
+ghost use Rattle.function_heads.specs.HeadTypes.{signature_in};
 ghost use Rattle.function_heads.specs.Heads.{most_functions, number_or_int, slot_number, slot_tree, function_head};
 ghost use Rattle.signatures.specs.SignatureFaults.{function_name_fault};
-ghost use Rattle.function_heads.specs.HeadFaults.{FailsInHead, FailsInTypes, external_fault, missing_body_fault};
+ghost use Rattle.function_heads.specs.HeadFaults.{FailsInHead, FailsInWords, external_fault, missing_body_fault};
 
+use crate::head_types::signature_in;
 use base::{NoMemory, Pos, SiteId, TypeId, ValueType};
 use names::{Scope, is_blank, spelled, type_id};
 use signatures::{
-    Slot, fault_where, function_name_fault, is_small, may_be_named, signature_in, sites_of,
-    size_fault, types_fault,
+    Slot, fault_where, function_name_fault, is_small, may_be_named, sites_of, size_fault,
 };
 use std::alloc::Global;
 use syntax::{Func, Name};
@@ -82,18 +83,15 @@ pub fn check_head(text: &[u8], scope: &Scope, number: usize, f: &Func) -> Check
     }
 }
 
-/// The types of a function's parameters and results, and their words.
-pub fn check_types(alloc: Global, text: &[u8], heads: &Scope, f: &Func) -> Result<Check, NoMemory>
+/// The words of a function's arguments and results, where all their types are known.
+pub fn check_words(alloc: Global, text: &[u8], heads: &Scope, f: &Func) -> Result<Check, NoMemory>
     ensures is_allowed { IfOk result (λ p. p.is_allowed ≡ is_small (scope_of heads.now).types (signature_in text.now (scope_of heads.now) (function_of f.now))) }
-    ensures fault { IfOk result (λ p. IsLeast (FailsInTypes text.now (scope_of heads.now) (function_of f.now)) p.fault) }
+    ensures fault { IfOk result (λ p. IsLeast (FailsInWords text.now (scope_of heads.now) (function_of f.now)) p.fault) }
 {
-    let params_fault = types_fault(text, heads, &f.params);
-    let results_fault = types_fault(text, heads, &f.results);
     let signature = signature_in(alloc, text, heads, f)?;
-    let own = size_fault(&heads.types, &signature, f.name.pos);
     Ok(Check {
         is_allowed: is_small(&heads.types, &signature),
-        fault: lesser(lesser(params_fault, results_fault), own),
+        fault: size_fault(&heads.types, &signature, f.name.pos),
     })
 }
 

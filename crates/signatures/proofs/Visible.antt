@@ -180,8 +180,13 @@ shown_site s scope v name site t is = v.shown name (Variable site t) is
 pub shown_number : (s : Scope) (scope : List ℕ) → Visible s scope → (name : List ℕ) (k : ValueId) (g : GlobalId) → declaration s name ≡ Some (Global k g) → slice_get s.globals g.0 ≡ Some k.0
 shown_number s scope v name k g is = v.shown name (Global k g) is
 
-pub visible_beginning : Visible beginning []
-visible_beginning = record { bounded = (tt, tt); shown = λ name d is. predeclared_shown beginning.types [] [] [] name d is; held = λ k f is. absurd (none_some is) }
+-- where no name is declared, whatever the types
+pub visible_block : (T : Table) → Visible (record beginning { types = T }) []
+visible_block T = record {
+  bounded = (tt, tt);
+  shown = λ name d is. predeclared_shown T [] [] [] name d is;
+  held = λ k f is. absurd (none_some is);
+}
 
 pub visible_opened : (s : Scope) (scope : List ℕ) → Visible s scope → Visible (opened s) scope
 visible_opened s scope v = record { bounded = (tt, v.bounded); shown = v.shown; held = v.held }

@@ -1,26 +1,22 @@
 -- Parameters, results and signatures, and the names that a package declares (Go specification, "Function declarations", "Function types",
 -- "Blocks").
-use Rattle.std.specs.Prelude.{ℕ, length, ◌+◌, ◌==◌, Bool, true, false, not, ◌&&◌, ◌||◌, List, [], ◌∷◌, ◌++◌, codes, map, Option, Some, None, is_some, option_and_then, nat_le, if◌then◌else◌}
+use Rattle.std.specs.Prelude.{ℕ, length, ◌+◌, ◌==◌, Bool, true, false, not, ◌&&◌, ◌||◌, List, [], ◌∷◌, ◌++◌, codes, map, Option, Some, None, option_and_then, nat_le, if◌then◌else◌}
 use Rattle.std.specs.Option.{option_map}
 use Rattle.std.specs.Str.{bytes_eq}
 use Rattle.syntax.specs.declared.expression.Name.{Name}
 use Rattle.syntax.specs.Expressions.{Ex as TreeEx, Exs as TreeExs, some, spelled}
 use Rattle.syntax.specs.Expressions as expressions
 use Rattle.syntax.specs.Statements.{ValueSpec}
-use Rattle.syntax.specs.Declarations.{Field, Parameters, unnamed, named, TypeSpec, Function as TreeFunction, Declaration, constants, variables, types}
+use Rattle.syntax.specs.Declarations.{Field, Parameters, unnamed, named, TypeSpec, Declaration, constants, variables, types}
 use Rattle.syntax.specs.Declarations as tree
-use Rattle.base.specs.declared.pos.Pos.{Pos}
 use Rattle.base.specs.declared.value_type.ValueType.{ValueType}
-use Rattle.base.specs.declared.value_type.ValueType.TheVariants.{Int, Bool as Boolean, Struct}
+use Rattle.base.specs.declared.value_type.ValueType.TheVariants.{Struct}
 use Rattle.typed_syntax.specs.Syntax.{all_width}
 use Rattle.typed.specs.Tables.{Table}
-use Rattle.names.specs.declared.scope.External.{External as ExternalData}
-use Rattle.names.specs.declared.scope.External.TheVariants as external
 use Rattle.names.specs.declared.scope.Declared.{Declared}
-use Rattle.names.specs.declared.scope.Declared.TheVariants.{Untyped, Constant, Global, Function, External, «Type»}
+use Rattle.names.specs.declared.scope.Declared.TheVariants.{Untyped, Constant, Global, Function, «Type»}
 use Rattle.names.specs.Universe.{is_blank}
-use Rattle.names.specs.Scope.{Scope, Signature, type_trees, is_here, with_declaration, with_signature, with_value, with_global, with_struct}
-use Rattle.names.specs.Types.{type_in}
+use Rattle.names.specs.Scope.{Scope, Signature, type_trees, is_here, with_declaration, with_value, with_global, with_struct}
 use Rattle.signatures.specs.Structs.{fields_of_struct}
 use Rattle.signatures.specs.declared.slots.Slot.{Slot}
 
@@ -86,46 +82,11 @@ is_number i other = false
 abbrev pub may_be_named : ℕ → (is_blank : Bool) → Option Declared → Bool
 may_be_named i is_blank d = is_blank || is_number i d
 
--- one parameter, an int, and no results
-abbrev pub takes_one_int : List ValueType → List ValueType → Bool
-takes_one_int (Int ∷ []) [] = true
-takes_one_int params results = false
-
-abbrev pub is_of_exit : Option Signature → Bool
-is_of_exit None = false
-is_of_exit (Some sig) = takes_one_int sig.params sig.results
-
--- no parameters, and an int and a bool as results
-abbrev pub gives_int_and_bool : List ValueType → List ValueType → Bool
-gives_int_and_bool [] (Int ∷ Boolean ∷ []) = true
-gives_int_and_bool params results = false
-
-abbrev pub is_of_read_int : Option Signature → Bool
-is_of_read_int None = false
-is_of_read_int (Some sig) = gives_int_and_bool sig.params sig.results
-
--- which of the two functions without a body has a name that one of them has
-abbrev pub external_named : List ℕ → ExternalData
-external_named name = if bytes_eq name (codes "exit") then external.Exit else external.ReadInt
-
--- whether a name stands for the function without a body that is declared at a place
-abbrev pub is_external_at : Pos → Option Declared → Bool
-is_external_at pos (Some (External e declared_pos)) = declared_pos.offset == pos.offset
-is_external_at pos other = false
-
 module _ (text : List ℕ) where
-  -- ---- the names that the package declares, which tell what the types of its heads stand for
+  -- ---- the names that the package declares
 
   abbrev pub with_name : Declared → Scope → Name → Scope
   with_name d s n = if declares_name s (spelled text n) then with_declaration s (spelled text n) d else s
-
-  abbrev pub with_names : Declared → Scope → List Name → Scope
-  with_names d s [] = s
-  with_names d s (n ∷ ns) = with_names d (with_name d s n) ns
-
-  abbrev pub with_values : Scope → List ValueSpec → Scope
-  with_values s [] = s
-  with_values s (v ∷ vs) = with_values (with_names Untyped s v.names) vs
 
   -- a struct with the next number: the fields of each struct are noted by their names, also of one whose own name is not declared
   abbrev pub with_type : Scope → TypeSpec → Scope
@@ -134,18 +95,6 @@ module _ (text : List ℕ) where
   abbrev pub with_types : Scope → List TypeSpec → Scope
   with_types s [] = s
   with_types s (t ∷ ts) = with_types (with_type s t) ts
-
-  abbrev pub with_head : Scope → Declaration → Scope
-  with_head s (constants pos specs) = with_values s specs
-  with_head s (variables pos specs) = with_values s specs
-  with_head s (types pos specs) = with_types s specs
-  with_head s (tree.function f) = with_name Untyped s f.name
-
-  abbrev pub with_heads : Scope → List Declaration → Scope
-  with_heads s [] = s
-  with_heads s (d ∷ ds) = with_heads (with_head s d) ds
-
-  -- ---- what the package block has apart from those names
 
   -- a constant with the next number, of which nothing is known yet
   abbrev pub with_constant_name : Scope → Name → Scope
@@ -174,44 +123,14 @@ module _ (text : List ℕ) where
   with_package_variables s [] = s
   with_package_variables s (v ∷ vs) = with_package_variables (with_variable_names s v.names) vs
 
--- in a text, among the names of its package
-module _ (text : List ℕ) (heads : Scope) where
-  -- a parameter or result with its type, where that is known
-  abbrev pub slot_of : Param → Slot
-  slot_of p = record { name = p.name; value_type = type_in text heads p.type_expr }
+  -- ---- what the package declares apart from its functions, of which it has the names alone
 
-  abbrev pub slots_of : Parameters → List Slot
-  slots_of ps = map slot_of (params_of ps)
+  abbrev pub with_head : Scope → Declaration → Scope
+  with_head s (constants pos specs) = with_constants s specs
+  with_head s (variables pos specs) = with_package_variables s specs
+  with_head s (types pos specs) = with_types s specs
+  with_head s (tree.function f) = with_name Untyped s f.name
 
-  -- where all its types are known, a function has a signature
-  abbrev pub signature_in : TreeFunction → Option Signature
-  signature_in f = option_and_then (λ ps. option_map (λ rs. record { params = ps; results = rs }) (types_of (slots_of f.results))) (types_of (slots_of f.params))
-
-  -- ---- declarations at the level of the package
-
-  -- `exit` takes an int; `readInt` gives an int and a bool, which have no names
-  abbrev pub has_exit_head : TreeFunction → Bool
-  has_exit_head f = bytes_eq (spelled text f.name) (codes "exit") && is_of_exit (signature_in f)
-
-  abbrev pub has_read_int_head : TreeFunction → Bool
-  has_read_int_head f = bytes_eq (spelled text f.name) (codes "readInt") && (is_of_read_int (signature_in f) && not (is_named f.results))
-
-  -- whether a function is one of the two, which have no body
-  abbrev pub is_external : TreeFunction → Bool
-  is_external f = not (is_some f.body) && (has_exit_head f || has_read_int_head f)
-
-  -- ---- the package block: the first declaration of a name stays
-
-  abbrev pub with_function : Scope → TreeFunction → Scope
-  with_function s f =
-      if is_external f then with_name text (External (external_named (spelled text f.name)) f.name.pos) s f.name else with_signature (with_name text (Function (record { 0 = length s.signatures })) s f.name) (signature_in f)
-
-  abbrev pub with_item : Scope → Declaration → Scope
-  with_item s (constants pos specs) = with_constants text s specs
-  with_item s (variables pos specs) = with_package_variables text s specs
-  with_item s (types pos specs) = with_types text s specs
-  with_item s (tree.function f) = with_function s f
-
-  abbrev pub with_items : Scope → List Declaration → Scope
-  with_items s [] = s
-  with_items s (d ∷ ds) = with_items (with_item s d) ds
+  abbrev pub with_heads : Scope → List Declaration → Scope
+  with_heads s [] = s
+  with_heads s (d ∷ ds) = with_heads (with_head s d) ds

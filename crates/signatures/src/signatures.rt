@@ -1,130 +1,28 @@
-//! The package block: what it declares, and the names and signatures of functions.
+//! The names that a package declares, and the words of a signature.
 
-ghost use Rattle.std.specs.Prelude.{◌≡◌, ◌<◌, ◌+◌, Option, Some, None, IfOk, OnOk, MatchOption, length, option_and_then, not, codes, ◌||◌, ◌&&◌};
+ghost use Rattle.std.specs.Prelude.{◌≡◌, ◌<◌, ◌+◌, Option, Some, None, OnOk, IfOk, MatchOption, length};
 ghost use Rattle.std.specs.Option.{option_map};
-ghost use Rattle.std.specs.Str.{bytes_eq};
-ghost use Rattle.syntax.specs.Expressions.{spelled};
 ghost use Rattle.syntax.specs.Statements.{value_specs_of};
-ghost use Rattle.syntax.specs.Declarations.{parameters_of, type_spec_of, type_specs_of, function_of, declaration_of, declarations_of};
+ghost use Rattle.syntax.specs.Declarations.{type_spec_of, type_specs_of, declaration_of, declarations_of};
 ghost use Rattle.typed_syntax.specs.Syntax.{all_width};
-ghost use Rattle.names.specs.declared.scope.Declared.TheVariants.{Untyped as NoType};
-ghost use Rattle.names.specs.Universe.{is_blank};
-ghost use Rattle.names.specs.Scope.{scope_of, signature_of, type_trees, declaration, is_here};
-ghost use Rattle.signatures.specs.Signatures.{signature_in, is_init, declares_name, with_name, with_names, with_values, with_type, with_types, with_head, with_heads, with_constant_name, with_constant_names, with_constants, with_numbered_name, with_variable_name, with_variable_names, with_package_variables, with_function, with_item, with_items, is_number, may_be_named, is_small, is_named, words, takes_one_int, is_of_exit, gives_int_and_bool, is_of_read_int, external_named, is_external, is_external_at};
+ghost use Rattle.names.specs.Scope.{scope_of, signature_of, type_trees};
+ghost use Rattle.signatures.specs.Signatures.{is_init, declares_name, with_name, with_type, with_types, with_head, with_heads};
+ghost use Rattle.signatures.specs.Signatures.{with_constant_name, with_constant_names, with_constants, with_numbered_name};
+ghost use Rattle.signatures.specs.Signatures.{with_variable_name, with_variable_names, with_package_variables};
+ghost use Rattle.signatures.specs.Signatures.{is_number, may_be_named, is_small};
 ghost use Rattle.signatures.specs.SignatureFaults.{function_name_fault, size_fault};
 
 use crate::failing::fault_where;
-use crate::slots::{is_named, slots_of, types_of};
 use crate::structs::fields_of_struct;
-use base::{FuncId, NoMemory, Pos, StructId, ValueType};
-use names::{Declared, External, GlobalId, Scope, Signature, ValueId, is_blank, spelled, type_id};
+use base::{NoMemory, Pos, StructId, ValueType};
+use names::{Declared, GlobalId, Scope, Signature, ValueId, is_blank, spelled, type_id};
 use std::alloc::Global;
-use syntax::{Decl, Func, Name, TypeSpec, ValueSpec};
+use syntax::{Decl, Name, TypeSpec, ValueSpec};
 use type_faults::{Fault, FaultKind};
 use typed::TypeTable;
 
 /// The most words that the arguments and results of a function may have.
 const MOST_WORDS: u32 = 65_535;
-
-fn joined(params: Option<Vec<ValueType>>, results: Option<Vec<ValueType>>) -> Option<Signature>
-    ensures { option_map signature_of result ≡ option_and_then (λ ps. option_map (λ rs. record { params = ps; results = rs }) (option_map (λ v. v.items) results)) (option_map (λ v. v.items) params) }
-{
-    match (params, results) {
-        (Some(params), Some(results)) => Some(Signature { params, results }),
-        _ => None,
-    }
-}
-
-/// The signature of a function, where all its types are known.
-pub fn signature_in(
-    alloc: Global,
-    text: &[u8],
-    heads: &Scope,
-    f: &Func,
-) -> Result<Option<Signature>, NoMemory>
-    ensures { IfOk result (λ r. option_map signature_of r ≡ signature_in text.now (scope_of heads.now) (function_of f.now)) }
-{
-    let params = slots_of(alloc, text, heads, &f.params)?;
-    let results = slots_of(alloc, text, heads, &f.results)?;
-    let params = types_of(alloc, &params)?;
-    let results = types_of(alloc, &results)?;
-    Ok(joined(params, results))
-}
-
-/// Whether a signature is that of `exit`: one parameter, an int, and no results.
-fn is_of_exit(signature: &Option<Signature>) -> bool
-    ensures { result ≡ is_of_exit (option_map signature_of signature.now) }
-{
-    match signature {
-        Some(signature) => takes_one_int(&signature.params, &signature.results),
-        None => false,
-    }
-}
-
-fn takes_one_int(params: &[ValueType], results: &[ValueType]) -> bool
-    ensures { result ≡ takes_one_int params.now results.now }
-{
-    match (params, results) {
-        ([ValueType::Int], []) => true,
-        _ => false,
-    }
-}
-
-/// Whether a signature is that of `readInt`: no parameters, and an int and a bool as results.
-fn is_of_read_int(signature: &Option<Signature>) -> bool
-    ensures { result ≡ is_of_read_int (option_map signature_of signature.now) }
-{
-    match signature {
-        Some(signature) => gives_int_and_bool(&signature.params, &signature.results),
-        None => false,
-    }
-}
-
-fn gives_int_and_bool(params: &[ValueType], results: &[ValueType]) -> bool
-    ensures { result ≡ gives_int_and_bool params.now results.now }
-{
-    match (params, results) {
-        ([], [ValueType::Int, ValueType::Bool]) => true,
-        _ => false,
-    }
-}
-
-/// Which of the functions without a body has a name that one of them has.
-fn external_named(name: &[u8]) -> External
-    ensures { result ≡ external_named name.now }
-{
-    if name == "exit".as_bytes() {
-        External::Exit
-    } else {
-        External::ReadInt
-    }
-}
-
-/// Whether a function has the name and the types of `exit`.
-fn has_exit_head(text: &[u8], f: &Func, signature: &Option<Signature>) -> bool
-    ensures { result ≡ (bytes_eq (spelled text.now f.now.name) (codes "exit") && is_of_exit (option_map signature_of signature.now)) }
-{
-    spelled(text, f.name) == "exit".as_bytes() && is_of_exit(signature)
-}
-
-/// Whether a function has the name and the types of `readInt`, and no names for its results.
-fn has_read_int_head(text: &[u8], f: &Func, signature: &Option<Signature>) -> bool
-    ensures { result ≡ (bytes_eq (spelled text.now f.now.name) (codes "readInt") && (is_of_read_int (option_map signature_of signature.now) && not (is_named (parameters_of f.now.results)))) }
-{
-    let has_types = is_of_read_int(signature) && !is_named(&f.results);
-    spelled(text, f.name) == "readInt".as_bytes() && has_types
-}
-
-/// Whether a function is `readInt` or `exit`, which have no body.
-pub fn is_external(alloc: Global, text: &[u8], heads: &Scope, f: &Func) -> Result<bool, NoMemory>
-    ensures { IfOk result (λ b. b ≡ is_external text.now (scope_of heads.now) (function_of f.now)) }
-{
-    if f.body.is_some() {
-        return Ok(false);
-    }
-    let signature = signature_in(alloc, text, heads, f)?;
-    Ok(has_exit_head(text, f, &signature) || has_read_int_head(text, f, &signature))
-}
 
 /// Whether a name is `init`, which no package has.
 pub fn is_init(name: &[u8]) -> bool
@@ -140,7 +38,12 @@ fn declares_name(scope: &Scope, name: &[u8]) -> bool
 }
 
 /// Declares a name, if it is the first one.
-fn add_name(text: &[u8], scope: &mut Scope, name: Name, declared: Declared) -> Result<(), NoMemory>
+pub fn add_name(
+    text: &[u8],
+    scope: &mut Scope,
+    name: Name,
+    declared: Declared,
+) -> Result<(), NoMemory>
     ensures { OnOk result (scope_of scope.new ≡ with_name text.now declared (scope_of scope.old) name) }
 {
     let bytes = spelled(text, name);
@@ -149,26 +52,6 @@ fn add_name(text: &[u8], scope: &mut Scope, name: Name, declared: Declared) -> R
     } else {
         Ok(())
     }
-}
-
-/// Declares names without a type.
-fn add_names(text: &[u8], scope: &mut Scope, names: &[Name]) -> Result<(), NoMemory>
-    ensures { OnOk result (scope_of scope.new ≡ with_names text.now NoType (scope_of scope.old) names.now) }
-{
-    for name in names {
-        add_name(text, scope, *name, Declared::Untyped)?;
-    }
-    Ok(())
-}
-
-/// Declares variables or constants as names of heads.
-fn add_values(text: &[u8], scope: &mut Scope, specs: &[ValueSpec]) -> Result<(), NoMemory>
-    ensures { OnOk result (scope_of scope.new ≡ with_values text.now (scope_of scope.old) (value_specs_of specs.now)) }
-{
-    for spec in specs {
-        add_names(text, scope, &spec.names)?;
-    }
-    Ok(())
 }
 
 /// The number of the next struct.
@@ -197,7 +80,7 @@ fn add_type(alloc: Global, text: &[u8], scope: &mut Scope, spec: &TypeSpec) -> R
 }
 
 /// Declares structs. The fields of each struct are noted by their names.
-fn add_types(
+pub fn add_types(
     alloc: Global,
     text: &[u8],
     scope: &mut Scope,
@@ -207,33 +90,6 @@ fn add_types(
 {
     for spec in specs {
         add_type(alloc, text, scope, spec)?;
-    }
-    Ok(())
-}
-
-/// Declares the names of a declaration among those that tell what the types of heads stand for.
-fn add_head(alloc: Global, text: &[u8], heads: &mut Scope, decl: &Decl) -> Result<(), NoMemory>
-    ensures { OnOk result (scope_of heads.new ≡ with_head text.now (scope_of heads.old) (declaration_of decl.now)) }
-{
-    match decl {
-        Decl::Const(_, specs) => add_values(text, heads, specs),
-        Decl::Var(_, specs) => add_values(text, heads, specs),
-        Decl::Type(_, specs) => add_types(alloc, text, heads, specs),
-        Decl::Func(f) => add_name(text, heads, f.name, Declared::Untyped),
-    }
-}
-
-/// Declares the names of a package, which tell what the types of its heads stand for. The fields of each struct are noted by their names.
-pub fn add_heads(
-    alloc: Global,
-    text: &[u8],
-    heads: &mut Scope,
-    decls: &[Decl],
-) -> Result<(), NoMemory>
-    ensures { OnOk result (scope_of heads.new ≡ with_heads text.now (scope_of heads.old) (declarations_of decls.now)) }
-{
-    for decl in decls {
-        add_head(alloc, text, heads, decl)?;
     }
     Ok(())
 }
@@ -277,7 +133,7 @@ fn add_constant_names(text: &[u8], scope: &mut Scope, names: &[Name]) -> Result<
 }
 
 /// Declares constants.
-fn add_constants(text: &[u8], scope: &mut Scope, specs: &[ValueSpec]) -> Result<(), NoMemory>
+pub fn add_constants(text: &[u8], scope: &mut Scope, specs: &[ValueSpec]) -> Result<(), NoMemory>
     ensures { OnOk result (scope_of scope.new ≡ with_constants text.now (scope_of scope.old) (value_specs_of specs.now)) }
 {
     for spec in specs {
@@ -316,7 +172,7 @@ fn add_variable_names(text: &[u8], scope: &mut Scope, names: &[Name]) -> Result<
 }
 
 /// Declares package variables.
-fn add_package_variables(
+pub fn add_package_variables(
     text: &[u8],
     scope: &mut Scope,
     specs: &[ValueSpec],
@@ -329,61 +185,30 @@ fn add_package_variables(
     Ok(())
 }
 
-/// Declares a function with the next number, or one without a body, which has none.
-fn add_function(
-    alloc: Global,
-    text: &[u8],
-    heads: &Scope,
-    scope: &mut Scope,
-    f: &Func,
-) -> Result<(), NoMemory>
-    ensures { OnOk result (scope_of scope.new ≡ with_function text.now (scope_of heads.now) (scope_of scope.old) (function_of f.now)) }
-{
-    if is_external(alloc, text, heads, f)? {
-        return add_name(
-            text,
-            scope,
-            f.name,
-            Declared::External(external_named(spelled(text, f.name)), f.name.pos),
-        );
-    }
-    let signature = signature_in(alloc, text, heads, f)?;
-    let Ok(number) = u32::try_from(scope.signatures.len()) else {
-        return Err(NoMemory);
-    };
-    add_name(text, scope, f.name, Declared::Function(FuncId(number)))?;
-    scope.add_signature(signature)
-}
-
-fn add_item(
-    alloc: Global,
-    text: &[u8],
-    heads: &Scope,
-    scope: &mut Scope,
-    decl: &Decl,
-) -> Result<(), NoMemory>
-    ensures { OnOk result (scope_of scope.new ≡ with_item text.now (scope_of heads.now) (scope_of scope.old) (declaration_of decl.now)) }
+/// Declares what a declaration does, or the name of a function, of which nothing is known yet.
+fn add_head(alloc: Global, text: &[u8], heads: &mut Scope, decl: &Decl) -> Result<(), NoMemory>
+    ensures { OnOk result (scope_of heads.new ≡ with_head text.now (scope_of heads.old) (declaration_of decl.now)) }
 {
     match decl {
-        Decl::Const(_, specs) => add_constants(text, scope, specs),
-        Decl::Var(_, specs) => add_package_variables(text, scope, specs),
-        Decl::Type(_, specs) => add_types(alloc, text, scope, specs),
-        Decl::Func(f) => add_function(alloc, text, heads, scope, f),
+        Decl::Const(_, specs) => add_constants(text, heads, specs),
+        Decl::Var(_, specs) => add_package_variables(text, heads, specs),
+        Decl::Type(_, specs) => add_types(alloc, text, heads, specs),
+        Decl::Func(f) => add_name(text, heads, f.name, Declared::Untyped),
     }
 }
 
-/// Declares what a package does. The fields of each struct are noted by their names.
-pub fn add_items(
+/// Declares what a package does, but for its functions, of which it has the names alone: what their heads state is looked up
+/// there.
+pub fn add_heads(
     alloc: Global,
     text: &[u8],
-    heads: &Scope,
-    scope: &mut Scope,
+    heads: &mut Scope,
     decls: &[Decl],
 ) -> Result<(), NoMemory>
-    ensures { OnOk result (scope_of scope.new ≡ with_items text.now (scope_of heads.now) (scope_of scope.old) (declarations_of decls.now)) }
+    ensures { OnOk result (scope_of heads.new ≡ with_heads text.now (scope_of heads.old) (declarations_of decls.now)) }
 {
     for decl in decls {
-        add_item(alloc, text, heads, scope, decl)?;
+        add_head(alloc, text, heads, decl)?;
     }
     Ok(())
 }
@@ -422,16 +247,6 @@ pub fn function_name_fault(
         None
     } else {
         fault_where(!is_number(number, declared), own)
-    }
-}
-
-/// Whether a name stands for the function without a body that is declared at a place.
-pub fn is_external_at(pos: Pos, declared: Option<Declared>) -> bool
-    ensures { result ≡ is_external_at pos declared }
-{
-    match declared {
-        Some(Declared::External(_, declared_pos)) => declared_pos.offset == pos.offset,
-        _ => false,
     }
 }
 

@@ -1,21 +1,15 @@
 //! Parameters and results one by one, each with its type.
 
-ghost use Rattle.std.specs.Prelude.{◌≡◌, ◌⊎◌, Option, Some, None, IfOk, List, map, length, not, ◌==◌, ◌++◌, option_and_then, slice_get};
+ghost use Rattle.std.specs.Prelude.{◌≡◌, Option, IfOk, List, map, length, not, ◌==◌, option_and_then, slice_get};
 ghost use Rattle.std.specs.Option.{option_map};
-ghost use Rattle.syntax.specs.Expressions.{ex_of as tree_of, exs_of as trees_of};
-ghost use Rattle.syntax.specs.Declarations.{parameters_of, field_of, fields_of};
-ghost use Rattle.type_faults.specs.Least.{IsLeast};
-ghost use Rattle.names.specs.Scope.{scope_of};
+ghost use Rattle.syntax.specs.Declarations.{parameters_of, fields_of};
 ghost use Rattle.type_faults.specs.Given.{with_last};
 ghost use Rattle.signatures.specs.Entries.{slot_with, slots_each};
-ghost use Rattle.signatures.specs.Signatures.{param_with, field_params, named_params, unnamed_params, params_of, is_named, slot_of, slots_of, types_of};
-ghost use Rattle.signatures.specs.SignatureFaults.{TypesFail};
+ghost use Rattle.signatures.specs.Signatures.{named_params, params_of, is_named, types_of};
 
 use base::{NoMemory, ValueType};
-use names::{Scope, type_fault, type_in};
 use std::alloc::Global;
-use syntax::{Expr, Field, Name, Params};
-use type_faults::{Fault, lesser};
+use syntax::{Field, Name, Params};
 
 /// A parameter or a result: its name, if it has one, and its type, where that is known.
 #[derive(Clone, Copy, Debug, PartialEq, Eq)]
@@ -91,77 +85,6 @@ pub fn slot_types(alloc: Global, slots: &[Slot]) -> Result<Vec<Option<ValueType>
     Ok(types)
 }
 
-/// Those without names.
-fn unnamed_slots(
-    alloc: Global,
-    text: &[u8],
-    heads: &Scope,
-    types: &[Expr],
-) -> Result<Vec<Slot>, NoMemory>
-    ensures { IfOk result (λ v. v.items ≡ map (slot_of text.now (scope_of heads.now)) (unnamed_params (trees_of types.now))) }
-{
-    let mut slots = Vec::new(alloc);
-    for type_expr in types {
-        let value_type = type_in(text, heads, type_expr);
-        slots.push(Slot {
-            name: None,
-            value_type,
-        })?;
-    }
-    Ok(slots)
-}
-
-/// One for each name of a field after others. Its type is looked up once.
-fn with_field(
-    slots: Vec<Slot>,
-    text: &[u8],
-    heads: &Scope,
-    field: &Field,
-) -> Result<Vec<Slot>, NoMemory>
-    ensures { IfOk result (λ v. v.items ≡ slots.items ++ map (slot_of text.now (scope_of heads.now)) (field_params (field_of field.now))) }
-{
-    let value_type = type_in(text, heads, &field.type_expr);
-    let mut slots = slots;
-    for name in &field.names {
-        slots.push(Slot {
-            name: Some(*name),
-            value_type,
-        })?;
-    }
-    Ok(slots)
-}
-
-/// Those with names.
-fn named_slots(
-    alloc: Global,
-    text: &[u8],
-    heads: &Scope,
-    fields: &[Field],
-) -> Result<Vec<Slot>, NoMemory>
-    ensures { IfOk result (λ v. v.items ≡ map (slot_of text.now (scope_of heads.now)) (named_params (fields_of fields.now))) }
-{
-    let mut slots = Vec::new(alloc);
-    for field in fields {
-        slots = with_field(slots, text, heads, field)?;
-    }
-    Ok(slots)
-}
-
-/// Parameters or results one by one, with what their types stand for among the names of the package.
-pub fn slots_of(
-    alloc: Global,
-    text: &[u8],
-    heads: &Scope,
-    params: &Params,
-) -> Result<Vec<Slot>, NoMemory>
-    ensures { IfOk result (λ v. v.items ≡ slots_of text.now (scope_of heads.now) (parameters_of params.now)) }
-{
-    match params {
-        Params::Unnamed(types) => unnamed_slots(alloc, text, heads, types),
-        Params::Named(fields) => named_slots(alloc, text, heads, fields),
-    }
-}
-
 /// Whether they have names.
 pub fn is_named(params: &Params) -> bool
     ensures { result ≡ is_named (parameters_of params.now) }
@@ -217,46 +140,4 @@ pub fn types_of(alloc: Global, slots: &[Slot]) -> Result<Option<Vec<ValueType>>,
         types = with_type(types, slot.value_type)?;
     }
     Ok(types)
-}
-
-fn unnamed_fault(text: &[u8], heads: &Scope, types: &[Expr]) -> Option<Fault>
-    ensures { IsLeast (TypesFail text.now (scope_of heads.now) (unnamed_params (trees_of types.now))) result }
-{
-    let mut fault = None;
-    for type_expr in types {
-        fault = lesser(fault, type_fault(text, heads, type_expr));
-    }
-    fault
-}
-
-/// The fault of the type that names share, looked at once.
-fn field_fault(text: &[u8], heads: &Scope, names: &[Name], type_expr: &Expr) -> Option<Fault>
-    ensures { IsLeast (TypesFail text.now (scope_of heads.now) (map (param_with (tree_of type_expr.now)) names.now)) result }
-{
-    if names.is_empty() {
-        None
-    } else {
-        type_fault(text, heads, type_expr)
-    }
-}
-
-fn named_fault(text: &[u8], heads: &Scope, fields: &[Field]) -> Option<Fault>
-    ensures { IsLeast (TypesFail text.now (scope_of heads.now) (named_params (fields_of fields.now))) result }
-{
-    let mut fault = None;
-    for field in fields {
-        let own = field_fault(text, heads, &field.names, &field.type_expr);
-        fault = lesser(fault, own);
-    }
-    fault
-}
-
-/// The fault of their types.
-pub fn types_fault(text: &[u8], heads: &Scope, params: &Params) -> Option<Fault>
-    ensures { IsLeast (TypesFail text.now (scope_of heads.now) (params_of (parameters_of params.now))) result }
-{
-    match params {
-        Params::Unnamed(types) => unnamed_fault(text, heads, types),
-        Params::Named(fields) => named_fault(text, heads, fields),
-    }
 }

@@ -1,8 +1,0 @@
-use Rattle.std.proofs.Common.{◌≡◌, drop}
-use Rattle.syntax.specs.Statements.{value_specs_of}
-use Rattle.names.specs.Scope.{scope_of}
-use Rattle.signatures.proofs.signatures.add_values.Given as goal
-use Rattle.signatures.specs.Signatures.{with_values}
-
-abbrev pub invariant-loop-spec : goal.invariant-loop-spec
-invariant-loop-spec l = with_values l.text (scope_of l.fn.scope) (value_specs_of l.specs) ≡ with_values l.text (scope_of l.scope) (value_specs_of (drop l.spec-index l.specs))
