@@ -2,9 +2,10 @@
 
 use crate::answers::tree_of;
 use base::{StructId, ValueType};
+use function_heads::add_items;
 use names::{Blocks, Declared, Scope, beginning};
 use parse_go::ParseFault;
-use signatures::{add_heads, add_items};
+use signatures::add_heads;
 use std::alloc::Global;
 use std::process::Abort;
 use std::test::Fail;

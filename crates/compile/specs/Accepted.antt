@@ -9,7 +9,7 @@ use Rattle.syntax.specs.Declarations.{Syntax}
 use Rattle.parse_go.specs.Grammar.{IsText}
 use Rattle.parse_go.specs.Faults.{IsFirstFault}
 use Rattle.type_faults.specs.declared.fault.TypeFault.TheVariants as typing
-use Rattle.types_go.specs.Checked.{Types, Reports, function_places}
+use Rattle.types_go.specs.Checked.{Types, Reports, AreAtNames}
 use Rattle.typed_syntax.specs.Syntax.{Func, Program}
 use Rattle.typed.specs.View.{program_of}
 use Rattle.typed_syntax.specs.Frames.{frame_of}
@@ -39,7 +39,7 @@ pub record Accepted (text : List ℕ) (p : Program) : Type 0 where
 
 -- each function of a program stands where its name stands in the tree
 abbrev pub StandAtNames : ProgramData → Syntax → Type 0
-StandAtNames program tree = map (λ (f : FuncData). f.pos) program.funcs.items ≡ function_places tree
+StandAtNames program tree = AreAtNames tree (map (λ (f : FuncData). f.pos) program.funcs.items)
 
 -- a text's tokens have no tree, because of this fault
 pub record HasParseFault (text : List ℕ) (f : Rattle.parse_go.specs.declared.fault.ParseFault.ParseFault) : Type 0 where

@@ -21,7 +21,7 @@ use Rattle.gostk.specs.Refusal.{refusal_of}
 use Rattle.gostk.specs.declared.refusal.Refusal.{Refusal}
 use Rattle.gostk.specs.declared.answer.Answer.{Answer}
 use Rattle.gostk.specs.Words.{bounds_of}
-use Rattle.gostk.specs.Rows.{Allowed, Asking, IsRunOf, IsTextOf, Ran, RanBy, RanText, Reads, Seen, Streams, Tells}
+use Rattle.gostk.specs.Rows.{Allowed, Asking, IsRunOf, IsTextOf, Ran, RanBy, RanText, Reads, RunsAsking, Seen, Streams, Tells}
 use Rattle.gostk.specs.declared.answer.Answer.TheVariants as answer
 use Rattle.code_runs.proofs.Composed.{asked_before}
 use Rattle.gostk.proofs.Early.{joined}
@@ -231,6 +231,16 @@ module _ (old new : Seen) (words : List (List ℕ)) (path text : List ℕ) (read
   allowed_by (answer.HeapLimit used asked limit) h = (h.0, h.2.answers, run_of old new words path text reads files h.0 h.1 h.2.answers h.2.came, h.2.leaves)
   allowed_by answer.NoMemory (inl quiet) = inl (record { io = quiet; files = files })
   allowed_by answer.NoMemory (inr h) = inr (h.0, h.2.answers, run_of old new words path text reads files h.0 h.1 h.2.answers h.2.came, h.2.leaves)
+
+  -- and where the text asks for an item, the words do
+  pub asking_by : (untouched : Type 0) → untouched ⊎ ((p : Program) × IsTextOf text p × Asking p (bounds_of words) old.io.left) → untouched ⊎ RunsAsking old new words
+  asking_by untouched (inl same) = inl same
+  asking_by untouched (inr asked) = inr (record {
+    program = asked.0;
+    answers = asked.2.answers;
+    run = run_of old new words path text reads files asked.0 asked.1 asked.2.answers asked.2.came;
+    asks = asked.2.asks;
+  })
 
 -- want of memory is not reported as a refusal of the text
 pub no_refusal : (f : CompileFault) (r : Refusal) → f ≡ NoMemory → refusal_of f ≡ Some r → ⊥

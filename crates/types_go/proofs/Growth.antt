@@ -7,7 +7,7 @@ use Rattle.base.specs.declared.value_type.ValueType.{ValueType}
 use Rattle.names.specs.Universe.{is_blank}
 use Rattle.names.specs.Scope.{Scope, known, with_site, opened}
 use Rattle.package_values.specs.Values.{Item}
-use Rattle.signatures.specs.Signatures.{slots_of}
+use Rattle.function_heads.specs.HeadTypes.{slots_of}
 use Rattle.signatures.proofs.Growth.{Grows, Keeps, grows_twice, keeps_twice, keeps_none, keeps_inner, grows_entries}
 use Rattle.types_go.specs.Statements.{behind_all}
 use Rattle.types_go.proofs.StatementGrowth.{grows_all}

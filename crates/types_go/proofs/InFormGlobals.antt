@@ -3,7 +3,6 @@ use Rattle.std.proofs.Common.{◌≡◌, ℕ, zero, suc, ℤ, pos, ◌+◌, ◌<
 use Rattle.std.specs.Prelude.{slice_get, option_and_then}
 use Rattle.std.specs.Option.{option_map}
 use Rattle.std.proofs.lemmas.Int.{ints as int_lemmas}
-use Rattle.std.proofs.lemmas.Bool.{false≢true}
 use Rattle.syntax.specs.Expressions.{spelled}
 use Rattle.syntax.specs.Declarations.{Function as TreeFunction, Declaration, constants, variables, types}
 use Rattle.syntax.specs.Declarations as tree
@@ -11,8 +10,9 @@ use Rattle.syntax.specs.declared.expression.Name.{Name}
 use Rattle.typed.specs.declared.program.Site.{Site}
 use Rattle.typed_syntax.specs.Syntax.{Func, Program, site_type}
 use Rattle.typed_syntax.specs.Form.{GlobalFits}
-use Rattle.typed_syntax.specs.Types.{TypeTree, ints, bools}
-use Rattle.typed_syntax.specs.Value.{Value, int, IsOf, FitsWords}
+use Rattle.typed_syntax.specs.Types.{TypeTree}
+use Rattle.typed_syntax.specs.Value.{Value, int, bool, IsOf, FitsWords, zero_of}
+use Rattle.value_laws.proofs.Zeros.{zero_is, zero_fits}
 use Rattle.constants.specs.declared.constant.Constant.{Constant}
 use Rattle.constants.specs.declared.constant.Constant.TheVariants.{Number, Truth}
 use Rattle.constants.specs.declared.constant.Fixed.{Fixed}
@@ -20,23 +20,20 @@ use Rattle.base.specs.declared.value_type.ValueType.{ValueType}
 use Rattle.base.specs.declared.value_type.ValueType.TheVariants.{Int, Bool as Boolean, Struct, Array}
 use Rattle.typed.specs.Tables.{Table}
 use Rattle.typed.specs.Formed.{IsFormed}
-use Rattle.constants.specs.Constants.{is_int, is_held, constant_type}
+use Rattle.constants.specs.Constants.{is_int}
 use Rattle.type_faults.proofs.Options.{and_then_some, map_some, none_some, same_some}
 use Rattle.names.specs.Universe.{is_blank}
 use Rattle.names.specs.declared.scope.Known.{Known}
-use Rattle.names.specs.declared.scope.Known.TheVariants as known_as
 use Rattle.names.specs.Scope.{Scope, type_number, type_tree, known, with_site}
-use Rattle.names.proofs.Settled.{AreSound}
 use Rattle.names.proofs.Trees.{int_tree, bool_tree}
 use Rattle.package_values.specs.declared.items.Role.TheVariants as role
-use Rattle.package_values.specs.Values.{Item, items_in_specs, is_variable_type}
-use Rattle.signatures.specs.Signatures.{is_external}
+use Rattle.package_values.specs.Values.{Item, items_in_specs}
+use Rattle.function_heads.specs.PackageBlock.{is_external}
 use Rattle.signatures.proofs.Growth.{Extends, Package, package_of}
 use Rattle.signatures.proofs.Visible.{HasSite, has_longer, new_site}
 use Rattle.signatures.proofs.InFormEntries.{HasSites, site_is}
-use Rattle.types_go.specs.Functions.{Member, of_function, of_variable, numbered, type_or_int, int_in, first_value, behind_variable, initial, members_in, behind_body, behind_function, function, functions, behind_members, globals}
+use Rattle.types_go.specs.Functions.{Member, of_function, of_variable, numbered, type_or_int, int_in, truth_in, begins, or_zero, begun_at, behind_variable, initial, members_in, behind_body, behind_function, function, functions, behind_members, globals}
 use Rattle.types_go.proofs.SettledFunctions.{function_some}
-use Rattle.types_go.proofs.Visible.{AreOfRules}
 use Rattle.types_go.proofs.Growth.{keeps_function, keeps_variable, keeps_members}
 use Rattle.types_go.proofs.InFormStatements.{AreGlobals}
 use Rattle.types_go.proofs.Package.{names_numbers, all_names, items_names, globals_numbers}
@@ -54,41 +51,28 @@ int_word : (c : Constant) → FitsWords (int (int_in c))
 int_word (Number z) = word_by z (is_int z) refl
 int_word (Truth b) = is_word (pos 0) refl
 
--- what is known of a package variable is an int or a truth value
-abbrev IsBasic : ValueType → Type 0
-IsBasic t = (t ≡ Int) ⊎ (t ≡ Boolean)
-
-held_basic : (t : Option ValueType) (c : Constant) → is_held t c ≡ true → IsBasic (constant_type t c)
-held_basic None (Number z) is = inl refl
-held_basic None (Truth b) is = inr refl
-held_basic (Some Int) c is = inl refl
-held_basic (Some Boolean) c is = inr refl
-held_basic (Some (Struct k)) c is = absurd (false≢true is)
-held_basic (Some (Array n e)) c is = absurd (false≢true is)
-
-rules_basic : (t : ValueType) → is_variable_type t ≡ true → IsBasic t
-rules_basic Int is = inl refl
-rules_basic Boolean is = inr refl
-rules_basic (Struct k) is = absurd (false≢true is)
-rules_basic (Array n e) is = absurd (false≢true is)
-
-known_basic : (s : Scope) → AreSound s.values → AreOfRules s → (k : ℕ) (o : Option Known) → known s k ≡ o → IsBasic (type_or_int o)
-known_basic s held rules k None is = inl refl
-known_basic s held rules k (Some (known_as.Constant f)) is = held_basic f.value_type f.value (held k (known_as.Constant f) is)
-known_basic s held rules k (Some (known_as.Variable t)) is = rules_basic t (rules k (known_as.Variable t) is)
-
+-- what a variable begins with is of its type
 module _ (T : Table) (formed : IsFormed T) where
-  first_fits : (t : ValueType) (c : Option Fixed) → IsBasic t → IsOf (type_tree T t) (first_value t c) × FitsWords (first_value t c)
-  first_fits t c (inl is) = subst (λ (u : ValueType). IsOf (type_tree T u) (first_value u c) × FitsWords (first_value u c)) (sym is) (subst (λ x. IsOf x (first_value Int c) × FitsWords (first_value Int c)) (sym (int_tree T formed)) (by c))
-    where
-      by : (o : Option Fixed) → IsOf ints (first_value Int o) × FitsWords (first_value Int o)
-      by None = (tt, is_word (pos 0) refl)
-      by (Some f) = (tt, int_word f.value)
-  first_fits t c (inr is) = subst (λ (u : ValueType). IsOf (type_tree T u) (first_value u c) × FitsWords (first_value u c)) (sym is) (subst (λ x. IsOf x (first_value Boolean c) × FitsWords (first_value Boolean c)) (sym (bool_tree T formed)) (by c))
-    where
-      by : (o : Option Fixed) → IsOf bools (first_value Boolean o) × FitsWords (first_value Boolean o)
-      by None = (tt, tt)
-      by (Some f) = (tt, tt)
+  zero_begins : (x : TypeTree) → IsOf x (zero_of x) × FitsWords (zero_of x)
+  zero_begins x = (zero_is x, zero_fits x)
+
+  first_fits : (t : ValueType) (c : Option Fixed) (x : TypeTree) → x ≡ type_tree T t → IsOf x (or_zero x (begins t c)) × FitsWords (or_zero x (begins t c))
+  first_fits Int None x is = zero_begins x
+  first_fits Int (Some f) x is = (subst (λ (y : TypeTree). IsOf y (int (int_in f.value))) (sym (is ∙ int_tree T formed)) tt, int_word f.value)
+  first_fits Boolean None x is = zero_begins x
+  first_fits Boolean (Some f) x is = (subst (λ (y : TypeTree). IsOf y (bool (truth_in f.value))) (sym (is ∙ bool_tree T formed)) tt, tt)
+  first_fits (Struct k) c x is = zero_begins x
+  first_fits (Array n e) c x is = zero_begins x
+
+mapped_at : {A B : Type 0} (f : A → B) (xs : List A) (k : ℕ) (x : A) → slice_get xs k ≡ Some x → slice_get (map f xs) k ≡ Some (f x)
+mapped_at f [] k x is = absurd (none_some is)
+mapped_at f (y ∷ xs) zero x is = ap (λ z. Some (f z)) (same_some is)
+mapped_at f (y ∷ xs) (suc k) x is = mapped_at f xs k x is
+
+mapped_back : {A B : Type 0} (f : A → B) (xs : List A) (k : ℕ) (y : B) → slice_get (map f xs) k ≡ Some y → (x : A) × (slice_get xs k ≡ Some x) × (f x ≡ y)
+mapped_back f [] k y is = absurd (none_some is)
+mapped_back f (x ∷ xs) zero y is = (x, refl, same_some is)
+mapped_back f (x ∷ xs) (suc k) y is = mapped_back f xs k y is
 
 extends_length : (a b : List Site) → Extends a b → length a ≤ length b
 extends_length a b e = let whole = ap length e.1 ∙ length-append a e.0 in omega (arith, whole)
@@ -118,19 +102,19 @@ module _ (text : List ℕ) where
       by later false = ap (λ l. k ∷ l) later
 
 module _ (text : List ℕ) (heads : Scope) where
-  pub members_numbers : (r : Scope) (k : ℕ) (ds : List Declaration) → member_numbers text (members_in text heads k ds) ≡ globals_numbers text heads r k ds
-  members_numbers r k [] = refl
-  members_numbers r k (constants at specs ∷ ds) = members_numbers r (k + length (items_in_specs role.Constant specs)) ds
-  members_numbers r k (variables at specs ∷ ds) =
+  pub members_numbers : (k : ℕ) (ds : List Declaration) → member_numbers text (members_in text heads k ds) ≡ globals_numbers text heads k ds
+  members_numbers k [] = refl
+  members_numbers k (constants at specs ∷ ds) = members_numbers (k + length (items_in_specs role.Constant specs)) ds
+  members_numbers k (variables at specs ∷ ds) =
       let is = items_in_specs role.Variable specs in
       let rest = members_in text heads (k + length is) ds in
       numbers_apart text k is rest ∙ ap (λ (ns : List Name). names_numbers text k ns ++ member_numbers text rest) (items_names text role.Variable specs)
-      ∙ ap (λ l. names_numbers text k (all_names text specs) ++ l) (members_numbers r (k + length is) ds)
-  members_numbers r k (types at specs ∷ ds) = members_numbers r k ds
-  members_numbers r k (tree.function g ∷ ds) = by (members_numbers r k ds) (is_external text heads g)
+      ∙ ap (λ l. names_numbers text k (all_names text specs) ++ l) (members_numbers (k + length is) ds)
+  members_numbers k (types at specs ∷ ds) = members_numbers k ds
+  members_numbers k (tree.function g ∷ ds) = by (members_numbers k ds) (is_external text heads g)
     where
-      by : member_numbers text (members_in text heads k ds) ≡ globals_numbers text heads r k ds → (b : Bool)
-          → member_numbers text (cond b (members_in text heads k ds) (of_function g ∷ members_in text heads k ds)) ≡ globals_numbers text heads r k ds
+      by : member_numbers text (members_in text heads k ds) ≡ globals_numbers text heads k ds → (b : Bool)
+          → member_numbers text (cond b (members_in text heads k ds) (of_function g ∷ members_in text heads k ds)) ≡ globals_numbers text heads k ds
       by later true = later
       by later false = later
 
@@ -142,7 +126,7 @@ module _ (text : List ℕ) (heads : Scope) where
 
   -- by the number of a package variable, its site has the type that is known of it
   global_at : (s : Scope) (ms : List Member) (g k : ℕ) → slice_get (member_numbers text ms) g ≡ Some k
-      → (entry : ℕ × Value) × (slice_get (globals text heads s ms) g ≡ Some entry) × TypedAt (package_of s) (behind_members text heads s ms).sites entry.0 k
+      → (entry : ℕ × Option Value) × (slice_get (globals text heads s ms) g ≡ Some entry) × TypedAt (package_of s) (behind_members text heads s ms).sites entry.0 k
   global_at s [] g k is = absurd (none_some is)
   global_at s (of_function h ∷ ms) g k is =
       let s1 = behind_function text heads s h in
@@ -161,15 +145,15 @@ module _ (text : List ℕ) (heads : Scope) where
       s1 = with_site s t x.name.pos
 
       Found : Scope → ℕ → Type 0
-      Found u j = (entry : ℕ × Value) × (slice_get (globals text heads u ms) j ≡ Some entry) × TypedAt (package_of s) (behind_members text heads u ms).sites entry.0 k
+      Found u j = (entry : ℕ × Option Value) × (slice_get (globals text heads u ms) j ≡ Some entry) × TypedAt (package_of s) (behind_members text heads u ms).sites entry.0 k
 
       by : ((j : ℕ) → slice_get (member_numbers text ms) j ≡ Some k → Found s j) → ((j : ℕ) → slice_get (member_numbers text ms) j ≡ Some k → Found s1 j) → (b : Bool) (j : ℕ)
           → slice_get (cond b (member_numbers text ms) (v ∷ member_numbers text ms)) j ≡ Some k
-          → (entry : ℕ × Value) × (slice_get (cond b [] ((length s.sites, first_value t c) ∷ []) ++ globals text heads (cond b s s1) ms) j ≡ Some entry)
+          → (entry : ℕ × Option Value) × (slice_get (cond b [] ((length s.sites, begins t c) ∷ []) ++ globals text heads (cond b s s1) ms) j ≡ Some entry)
           × TypedAt (package_of s) (behind_members text heads (cond b s s1) ms).sites entry.0 k
       by same later true j is1 = same j is1
       by same later false zero is1 = (
-        (length s.sites, first_value t c),
+        (length s.sites, begins t c),
         refl,
         subst (λ (m : ℕ). TypedAt (package_of s) (behind_members text heads s1 ms).sites (length s.sites) m) (same_some is1)
             (has_longer s.types s1.sites (behind_members text heads s1 ms).sites (length s.sites) t (keeps_members text heads s1 ms).sites (new_site s t x.name.pos)),
@@ -177,10 +161,10 @@ module _ (text : List ℕ) (heads : Scope) where
       by same later false (suc j) is1 = later j is1
 
   -- one of them, by its place
-  abbrev pub Begins : Package → List Site → ℕ × Value → Type 0
-  Begins q sites entry = (k : ℕ) × ((c : Option Fixed) × (TypedAt q sites entry.0 k × (entry.1 ≡ first_value (type_or_int (option_and_then (λ o. o) (slice_get q.values k))) c)))
+  abbrev pub Begins : Package → List Site → ℕ × Option Value → Type 0
+  Begins q sites entry = (k : ℕ) × ((c : Option Fixed) × (TypedAt q sites entry.0 k × (entry.1 ≡ begins (type_or_int (option_and_then (λ o. o) (slice_get q.values k))) c)))
 
-  global_begins : (s : Scope) (ms : List Member) (j : ℕ) (entry : ℕ × Value) → slice_get (globals text heads s ms) j ≡ Some entry → (length s.sites ≤ entry.0) × Begins (package_of s) (behind_members text heads s ms).sites entry
+  global_begins : (s : Scope) (ms : List Member) (j : ℕ) (entry : ℕ × Option Value) → slice_get (globals text heads s ms) j ≡ Some entry → (length s.sites ≤ entry.0) × Begins (package_of s) (behind_members text heads s ms).sites entry
   global_begins s [] j entry is = absurd (none_some is)
   global_begins s (of_function h ∷ ms) j entry is =
       let s1 = behind_function text heads s h in
@@ -202,12 +186,12 @@ module _ (text : List ℕ) (heads : Scope) where
       Begun : Scope → Type 0
       Begun u = (n : ℕ) → slice_get (globals text heads u ms) n ≡ Some entry → (length u.sites ≤ entry.0) × Begins (package_of s) (behind_members text heads u ms).sites entry
 
-      by : Begun s → Begun s1 → (b : Bool) (n : ℕ) → slice_get (cond b [] ((length s.sites, first_value t c) ∷ []) ++ globals text heads (cond b s s1) ms) n ≡ Some entry
+      by : Begun s → Begun s1 → (b : Bool) (n : ℕ) → slice_get (cond b [] ((length s.sites, begins t c) ∷ []) ++ globals text heads (cond b s s1) ms) n ≡ Some entry
           → (length s.sites ≤ entry.0) × Begins (package_of s) (behind_members text heads (cond b s s1) ms).sites entry
       by same others true n is1 = same n is1
       by same others false zero is1 =
-          let e : (length s.sites, first_value t c) ≡ entry = same_some is1 in
-          subst (λ (y : ℕ × Value). (length s.sites ≤ y.0) × Begins (package_of s) (behind_members text heads s1 ms).sites y) e
+          let e : (length s.sites, begins t c) ≡ entry = same_some is1 in
+          subst (λ (y : ℕ × Option Value). (length s.sites ≤ y.0) × Begins (package_of s) (behind_members text heads s1 ms).sites y) e
           (omega arith, (v, (c, (has_longer s.types s1.sites (behind_members text heads s1 ms).sites (length s.sites) t (keeps_members text heads s1 ms).sites (new_site s t x.name.pos), refl))))
       by same others false (suc n) is1 =
           let later = others n is1 in
@@ -257,7 +241,7 @@ module _ (text : List ℕ) (heads : Scope) where
       inr (omega (arith, e, c, here))
   one_apart site x fs here later (suc k) f at = later k f at
 
-  globals_apart : (s : Scope) (i : ℕ) (ms : List Member) (fs : List Func) → functions text heads s i ms ≡ Some fs → (j : ℕ) (entry : ℕ × Value) → slice_get (globals text heads s ms) j ≡ Some entry → Apart entry.0 fs
+  globals_apart : (s : Scope) (i : ℕ) (ms : List Member) (fs : List Func) → functions text heads s i ms ≡ Some fs → (j : ℕ) (entry : ℕ × Option Value) → slice_get (globals text heads s ms) j ≡ Some entry → Apart entry.0 fs
   globals_apart s i [] fs is j entry at = absurd (none_some at)
   globals_apart s i (of_function h ∷ ms) fs is j entry at =
       let s1 = behind_function text heads s h in
@@ -281,12 +265,12 @@ module _ (text : List ℕ) (heads : Scope) where
       Lies : Scope → Type 0
       Lies u = (n : ℕ) → functions text heads u i ms ≡ Some fs → slice_get (globals text heads u ms) n ≡ Some entry → Apart entry.0 fs
 
-      by : Lies s → Lies s1 → (b : Bool) (n : ℕ) → functions text heads (cond b s s1) i ms ≡ Some fs → slice_get (cond b [] ((length s.sites, first_value t c) ∷ []) ++ globals text heads (cond b s s1) ms) n ≡ Some entry
+      by : Lies s → Lies s1 → (b : Bool) (n : ℕ) → functions text heads (cond b s s1) i ms ≡ Some fs → slice_get (cond b [] ((length s.sites, begins t c) ∷ []) ++ globals text heads (cond b s s1) ms) n ≡ Some entry
           → Apart entry.0 fs
       by same others true n is1 at1 = same n is1 at1
       by same others false zero is1 at1 =
           λ k f found.
-          let e : length s.sites ≡ entry.0 = ap (λ (y : ℕ × Value). y.0) (same_some at1) in
+          let e : length s.sites ≡ entry.0 = ap (λ (y : ℕ × Option Value). y.0) (same_some at1) in
           let long = length-append s.sites (record { pos = x.name.pos; type_id = record { 0 = type_number s.types t } } ∷ []) in
           let first1 = firsts_behind s1 i ms fs is1 k f found in
           inl (omega (arith, e, long, first1))
@@ -306,23 +290,29 @@ module _ (text : List ℕ) (heads : Scope) where
         site_is T p all has site (type_or_int (known s k))
         (subst (λ (U : Table). HasSite U all site (type_or_int (known s k))) types_are (subst (λ (l : List Site). HasSite s.types l site (type_or_int (known s k))) sites typed))
 
-    pub globals_agree : s.globals ≡ member_numbers text ms → p.globals ≡ globals text heads s ms → (behind_members text heads s ms).sites ≡ all → AreGlobals T (package_of s) p
+    abbrev AreBegun : Type 0
+    AreBegun = p.globals ≡ map (begun_at p.sites) (globals text heads s ms)
+
+    pub globals_agree : s.globals ≡ member_numbers text ms → AreBegun → (behind_members text heads s ms).sites ≡ all → AreGlobals T (package_of s) p
     globals_agree numbers globals1 sites g k x at known_is =
         let found = global_at s ms g k (ap (λ l. slice_get l g) (sym numbers) ∙ at) in
-        let here = got p.globals g found.0 (0, int (pos 0)) (ap (λ (l : List (ℕ × Value)). slice_get l g) globals1 ∙ found.1) in
+        let here = got p.globals g (begun_at p.sites found.0) (0, int (pos 0))
+        (ap (λ (l : List (ℕ × Value)). slice_get l g) globals1 ∙ mapped_at (begun_at p.sites) (globals text heads s ms) g found.0 found.1) in
         let type_is = type_of_site found.0.0 k sites found.2 in
         (here.0, ap (λ (y : ℕ × Value). site_type p y.0) here.1 ∙ type_is ∙ ap (λ (o : Option Known). type_tree T (type_or_int o)) known_is)
 
-    pub globals_fit : IsFormed T → AreSound s.values → AreOfRules s → (fs : List Func) → functions text heads s 0 ms ≡ Some fs → p.funcs ≡ fs → (behind_members text heads s ms).sites ≡ all → (j : ℕ) (entry : ℕ × Value) → slice_get (globals text heads s ms) j ≡ Some entry
-        → GlobalFits p entry
-    globals_fit formed held rules fs is funcs sites j entry at =
-        let begins = (global_begins s ms j entry at).1 in
-        let k = begins.0 in
+    pub globals_fit : IsFormed T → (fs : List Func) → functions text heads s 0 ms ≡ Some fs → p.funcs ≡ fs → (behind_members text heads s ms).sites ≡ all → AreBegun
+        → (j : ℕ) (entry : ℕ × Value) → slice_get p.globals j ≡ Some entry → GlobalFits p entry
+    globals_fit formed fs is funcs sites globals1 j entry at =
+        let raw = mapped_back (begun_at p.sites) (globals text heads s ms) j entry (ap (λ (l : List (ℕ × Value)). slice_get l j) (sym globals1) ∙ at) in
+        let begins1 = (global_begins s ms j raw.0 raw.1).1 in
+        let k = begins1.0 in
         let t = type_or_int (known s k) in
-        let basic = known_basic s held rules k (known s k) refl in
-        let type_is = type_of_site entry.0 k sites begins.1.1.0 in
-        let fits = first_fits T formed t begins.1.0 basic in
-        record {
-          value = subst (λ (v : Value). IsOf (site_type p entry.0) v × FitsWords v) (sym begins.1.1.1) (subst (λ (u : TypeTree). IsOf u (first_value t begins.1.0)) (sym type_is) fits.0, fits.1);
-          apart = λ n f found. globals_apart s 0 ms fs is j entry at n f (ap (λ (l : List Func). slice_get l n) (sym funcs) ∙ found);
-        }
+        let type_is = type_of_site raw.0.0 k sites begins1.1.1.0 in
+        let fits = first_fits T formed t begins1.1.0 (site_type p raw.0.0) type_is in
+        let here : GlobalFits p (begun_at p.sites raw.0) = record {
+          value = subst (λ (o : Option Value). IsOf (site_type p raw.0.0) (or_zero (site_type p raw.0.0) o) × FitsWords (or_zero (site_type p raw.0.0) o))
+              (sym begins1.1.1.1) fits;
+          apart = λ n f found. globals_apart s 0 ms fs is j raw.0 raw.1 n f (ap (λ (l : List Func). slice_get l n) (sym funcs) ∙ found);
+        } in
+        subst (GlobalFits p) raw.2 here

@@ -19,8 +19,8 @@ use Rattle.typed_syntax.specs.Types.{TypeTree, ints, width}
 use Rattle.base.specs.declared.value_type.ValueType.{ValueType}
 use Rattle.type_faults.proofs.Options.{and_then_some, map_some, none_some, same_some}
 use Rattle.names.specs.Universe.{is_blank, is_main}
-use Rattle.names.specs.Scope.{Scope, Signature, type_tree, type_trees, basic_table, declaration, is_here, opened, beginning}
-use Rattle.names.proofs.Trees.{solid, formed_beginning}
+use Rattle.names.specs.Scope.{Scope, Signature, type_tree, type_trees, declaration, is_here, opened}
+use Rattle.names.proofs.Trees.{solid}
 use Rattle.expression_types.specs.declared.wants.Wanted.TheVariants as wants
 use Rattle.expression_types.specs.Typing.{wanted_by, asked}
 use Rattle.package_values.specs.Values.{items_in, settled}
@@ -28,22 +28,24 @@ use Rattle.signatures.specs.declared.slots.Slot.{Slot}
 use Rattle.signatures.specs.declared.entries.Role.{Role}
 use Rattle.signatures.specs.declared.entries.Role.TheVariants.{Parameter, Result}
 use Rattle.signatures.specs.Entries.{entry_of, sites_of, entry_in, behind_entry, entries}
-use Rattle.signatures.specs.Signatures.{Param, param_with, unnamed_params, named_params, params_of, is_named, slot_of, slots_of, words, is_small, types_of, signature_in, with_items, may_be_named}
+use Rattle.signatures.specs.Signatures.{Param, param_with, unnamed_params, named_params, params_of, is_named, words, is_small, types_of, may_be_named}
+use Rattle.function_heads.specs.HeadTypes.{slot_of, slots_of, signature_in}
 use Rattle.signatures.proofs.Growth.{Package, package_of, extends_twice, keeps_grows, grows_entries}
-use Rattle.signatures.proofs.Visible.{Visible, visible_opened, visible_kept}
+use Rattle.signatures.proofs.Visible.{Visible, visible_block, visible_opened, visible_kept}
 use Rattle.signatures.proofs.InFormEntries.{HasSites, Within, within_before, SlotsHave, sites_long, named_of_params, named_scope_of, variable_is, entries_fit}
 use Rattle.simple_statements.proofs.InFormSimple.{ReturnsFit}
 use Rattle.terminating.specs.Terminating.{ends_after}
 use Rattle.types_go.specs.Statements.{behind_all}
 use Rattle.function_heads.specs.Heads.{is_plain, number_of, plain_number, number_or_int, slot_tree, functions_in, are_supported}
-use Rattle.types_go.specs.Functions.{Member, of_function, of_variable, functions_of, behind_variable, members_in, behind_params, body_scope, behind_body, behind_function, behind_members, returns_of, func, function, functions, declarations_in, heads_of, numbered_functions, members, package_scope, main_number}
+use Rattle.types_go.specs.Functions.{Member, of_function, of_variable, functions_of, behind_variable, members_in, behind_params, body_scope, behind_body, behind_function, behind_members, returns_of, func, function, functions, declarations_in, block_with, numbered_functions, members, package_scope, main_number}
 use Rattle.types_go.specs.Checked.{Types, program_with}
-use Rattle.types_go.proofs.SettledFunctions.{allowed_some, signature_parts, small_signed, function_some, members_functions}
-use Rattle.types_go.proofs.Package.{constant_one, variable_one, declared_one, signatures_are, globals_are, items_kept, settled_kept}
-use Rattle.types_go.proofs.Types.{heads_types, block_types}
+use Rattle.types_go.proofs.SettledFunctions.{allowed_some, signature_parts, small_signed, function_some}
+use Rattle.types_go.proofs.SettledPackage.{block, members_functions}
+use Rattle.types_go.proofs.Package.{signatures_are, globals_are, settled_kept}
+use Rattle.types_go.proofs.Types.{block_types}
 use Rattle.types_go.proofs.StatementGrowth.{grows_all}
 use Rattle.types_go.proofs.Growth.{keeps_function, keeps_variable, keeps_members, grows_body}
-use Rattle.types_go.proofs.Visible.{visible_package, rules_package}
+use Rattle.types_go.proofs.Visible.{visible_package}
 use Rattle.types_go.proofs.InFormStatements.{AreSigned, AreGlobals, formed_all}
 use Rattle.types_go.proofs.InFormGlobals.{member_numbers, members_numbers, globals_agree, globals_fit}
 use Rattle.types_go.proofs.Inside.{inside_start, inside_grows}
@@ -347,36 +349,17 @@ module _ (text : List ℕ) (heads : Scope) where
       (at.1.1.0, at.1.1.1.0, types.0, types.1)
 
   -- the signatures of the package block
-  package_signatures : (r : Scope) (ds : List Declaration) → are_supported text heads r ds ≡ true → (settled text (with_items text heads beginning ds) (items_in ds)).signatures ≡ map (signature_in text heads) (functions_in text heads ds)
-  package_signatures r ds is =
-      let s = with_items text heads beginning ds in
-      settled_kept text (λ (v : Scope). v.signatures ≡ s.signatures) (λ v k i h. h) s (items_in ds) refl ∙ signatures_are text heads r beginning ds is
+  package_signatures : (ds : List Declaration) → (settled text (block text heads ds) (items_in ds)).signatures ≡ map (signature_in text heads) (functions_in text heads ds)
+  package_signatures ds =
+      let s = block text heads ds in
+      settled_kept text (λ (v : Scope). v.signatures ≡ s.signatures) (λ v k i h. h) s (items_in ds) refl ∙ signatures_are text heads (block_with heads) ds
 
   -- its package variables have the numbers of the members
-  package_globals : (r : Scope) (ds : List Declaration) → are_supported text heads r ds ≡ true → (settled text (with_items text heads beginning ds) (items_in ds)).globals ≡ member_numbers text (members_in text heads 0 ds)
-  package_globals r ds is =
-      let s = with_items text heads beginning ds in
-      settled_kept text (λ (v : Scope). v.globals ≡ s.globals) (λ v k i h. h) s (items_in ds) refl ∙ globals_are text heads r beginning ds is ∙ sym (members_numbers text heads r 0 ds)
-
-  -- it has no sites
-  no_sites : (r : Scope) (ds : List Declaration) → are_supported text heads r ds ≡ true → (settled text (with_items text heads beginning ds) (items_in ds)).sites ≡ []
-  no_sites r ds is =
-      settled_kept text (λ (v : Scope). v.sites ≡ []) (λ v k i h. h) (with_items text heads beginning ds) (items_in ds) (items_kept text heads r (λ (v : Scope). v.sites ≡ []) constant_sites variable_sites function_sites beginning ds is refl)
-    where
-      constant_sites : (s : Scope) (n : Name) (declares : Bool) → s.sites ≡ [] → (constant_one text s n declares).sites ≡ []
-      constant_sites s n true h = h
-      constant_sites s n false h = h
-
-      variable_sites : (s : Scope) (n : Name) (blank declares : Bool) → s.sites ≡ [] → (variable_one text s n blank declares).sites ≡ []
-      variable_sites s n true declares h = h
-      variable_sites s n false true h = h
-      variable_sites s n false false h = h
-
-      function_sites : (s : Scope) (g : TreeFunction) (external declares : Bool) → s.sites ≡ [] → (declared_one text heads s g external declares).sites ≡ []
-      function_sites s g true true h = h
-      function_sites s g true false h = h
-      function_sites s g false true h = h
-      function_sites s g false false h = h
+  package_globals : (ds : List Declaration) → (settled text (block text heads ds) (items_in ds)).globals ≡ member_numbers text (members_in text heads 0 ds)
+  package_globals ds =
+      let s = block text heads ds in
+      settled_kept text (λ (v : Scope). v.globals ≡ s.globals) (λ v k i h. h) s (items_in ds) refl ∙ globals_are text heads (block_with heads) ds
+      ∙ sym (members_numbers text heads 0 ds)
 
 -- ---- the sites of a program
 
@@ -403,14 +386,14 @@ plain_some gs (Some i) m is = by (slice_get gs i) refl is
     by None found is1 = absurd (none_some is1)
     by (Some g) found is1 = plain_here gs i m g found ((length (params_of g.params) == 0) && (length (params_of g.results) == 0)) refl is1
 
-main_some : (t : Syntax) (m : ℕ) → main_number t ≡ Some m → PlainAt (numbered_functions t) m
-main_some t m is = by (is_main (spelled t.text t.file.package_name)) is
+main_some : (t : Syntax) (h : Scope) (m : ℕ) → main_number t h ≡ Some m → PlainAt (numbered_functions t h) m
+main_some t h m is = by (is_main (spelled t.text t.file.package_name)) is
   where
     gs : List TreeFunction
-    gs = numbered_functions t
+    gs = numbered_functions t h
 
-    by : (b : Bool) → cond b (plain_number gs (number_of (declaration (package_scope t) (codes "main")))) None ≡ Some m → PlainAt gs m
-    by true is1 = plain_some gs (number_of (declaration (package_scope t) (codes "main"))) m is1
+    by : (b : Bool) → cond b (plain_number gs (number_of (declaration (package_scope t h) (codes "main")))) None ≡ Some m → PlainAt gs m
+    by true is1 = plain_some gs (number_of (declaration (package_scope t h) (codes "main"))) m is1
     by false is1 = absurd (none_some is1)
 
 -- without results there are no names for them
@@ -423,30 +406,28 @@ plain_function text heads s i g t is no_params no_results =
       (empty_list t.results (results_long text heads s i g t is ∙ no_results), ap (λ (x : Func). x.named) (sym p.3.6) ∙ ap sites_of rs),
     )
 
-pub in_form : (t : Syntax) (p : Program) → Types t p → IsInForm p
-in_form t p a =
+pub in_form : (t : Syntax) (p : Program) (a : Types t p) → IsFormed a.heads.types → IsInForm p
+in_form t p a formed =
     let ds = declarations_in t in
-    let h = heads_of t in
-    let gs = members t in
-    let s = package_scope t in
+    let h = a.heads in
+    let gs = members t h in
+    let s = package_scope t h in
     let w = allowed_some (are_supported t.text h s ds) (functions t.text h s 0 gs) a.funcs a.functions in
     let found : functions t.text h s 0 gs ≡ Some a.funcs = w.1 in
     let last1 = behind_members t.text h s gs in
-    let same_functions : functions_of gs ≡ numbered_functions t = members_functions t.text h 0 ds in
+    let same_functions : functions_of gs ≡ numbered_functions t h = members_functions t.text h 0 ds in
     let all = last1.sites in
-    let p0 = program_with t a.funcs a.main in
-    let basic : h.types ≡ basic_table = heads_types t.text beginning ds in
-    let formed : IsFormed h.types = subst IsFormed (sym basic) formed_beginning in
-    let own_types : s.types ≡ h.types = block_types t.text h s ds w.0 ∙ sym basic in
+    let p0 = program_with t h a.funcs a.main in
+    let own_types : s.types ≡ h.types = block_types t.text h h.types (block_with h) ds refl in
     let has : HasSites h.types p0 all = record { types = refl; sites = refl } in
-    let agrees = agree t.text h s gs a.funcs (package_signatures t.text h s ds w.0 ∙ ap (map (signature_in t.text h)) (sym same_functions)) found in
-    let numbered1 : AreGlobals h.types (package_of s) p0 = globals_agree t.text h h.types p0 all has s own_types gs (package_globals t.text h s ds w.0) refl refl in
-    let g = main_some t a.main a.main_is in
+    let agrees = agree t.text h s gs a.funcs (package_signatures t.text h ds ∙ ap (map (signature_in t.text h)) (sym same_functions)) found in
+    let numbered1 : AreGlobals h.types (package_of s) p0 = globals_agree t.text h h.types p0 all has s own_types gs (package_globals t.text h ds) refl refl in
+    let g = main_some t h a.main a.main_is in
     let at = function_at t.text h s 0 gs a.funcs found a.main g.0 (ap (λ (l : List TreeFunction). slice_get l a.main) same_functions ∙ g.1.0) in
     let plain = plain_function t.text h at.0 at.1.0 g.0 at.1.1.0 at.1.1.1.1 g.1.1.0 g.1.1.1 in
     let few0 = few_functions t.text h s 0 gs a.funcs found (omega arith) in
     let few : length a.funcs ≤ 4096 = omega (arith, few0) in
-    let visible = visible_package t.text h s ds w.0 in
+    let visible = visible_package t.text h (block_with h) ds (visible_block h.types) in
     let within : Within p0 all last1 = (([], sym (append-nil all)), omega arith) in
     subst IsInForm (sym a.is)
     (record {
@@ -454,5 +435,5 @@ in_form t p a =
       few = few;
       main = (at.1.1.0, at.1.1.1.0, plain.0, plain.1.0, plain.1.1);
       solid = λ site. sites_solid h.types formed all site;
-      globals = λ i g got. globals_fit t.text h h.types p0 all has s own_types gs formed visible.held (rules_package t.text h s ds w.0) a.funcs found refl refl i g got;
+      globals = λ i g got. globals_fit t.text h h.types p0 all has s own_types gs formed a.funcs found refl refl refl i g got;
     })

@@ -4,7 +4,7 @@ use Rattle.syntax.specs.Declarations.{Body, Function as TreeFunction}
 use Rattle.typed_syntax.specs.Syntax.{Sts}
 use Rattle.names.specs.Scope.{Scope}
 use Rattle.signatures.specs.declared.slots.Slot.{Slot}
-use Rattle.signatures.specs.Signatures.{slots_of}
+use Rattle.function_heads.specs.HeadTypes.{slots_of}
 use Rattle.types_go.specs.Functions.{param_entries, result_entries, behind_body, body_of, parts}
 use Rattle.function_heads.specs.Assembled.{assembled}
 

@@ -4,7 +4,7 @@ use Rattle.syntax.specs.Declarations.{Declaration, constants, variables, types, 
 use Rattle.names.specs.Scope.{Scope}
 use Rattle.package_values.specs.Values.{Item}
 use Rattle.package_values.specs.Passing.{items_of_decl}
-use Rattle.signatures.specs.Signatures.{is_external}
+use Rattle.function_heads.specs.PackageBlock.{is_external}
 use Rattle.types_go.specs.Functions.{Member, of_function, members_in}
 use Rattle.types_go.specs.Passing.{members_of_decl}
 

@@ -1,25 +1,24 @@
--- The package block names no variables of functions, its variables have their numbers, its constants are held by their types, and the types of
--- its variables have rules.
+-- The package block names no variables of functions, its variables have their numbers, and its constants are held by their types.
 use Rattle.std.proofs.Common.{◌≡◌, ℕ, zero, suc, Bool, true, false, List, [], ◌∷◌, ◌++◌, length, Option, Some, None, refl}
 use Rattle.std.specs.Prelude.{slice_get, slice_set, option_and_then}
 use Rattle.typed.specs.declared.program.Site.{Site}
 use Rattle.syntax.specs.declared.expression.Name.{Name}
 use Rattle.syntax.specs.Expressions.{spelled}
-use Rattle.syntax.specs.Declarations.{Function as TreeFunction, Declaration}
+use Rattle.syntax.specs.Declarations.{TypeSpec, Function as TreeFunction, Declaration}
 use Rattle.type_faults.proofs.Options.{none_some}
-use Rattle.names.specs.declared.scope.Declared.TheVariants.{Variable, Constant, Global, Function, External}
+use Rattle.names.specs.declared.scope.Declared.TheVariants.{Variable, Constant, Global, Function, External, «Type»}
 use Rattle.names.specs.declared.scope.Declared.{Declared}
+use Rattle.base.specs.declared.value_type.ValueType.TheVariants.{Struct}
 use Rattle.typed.specs.Tables.{Table}
 use Rattle.names.specs.declared.scope.Known.{Known}
-use Rattle.names.specs.Scope.{Scope, known, with_global, with_known, beginning}
+use Rattle.names.specs.Scope.{Scope, with_global, with_known}
 use Rattle.names.proofs.Settled.{IsSound}
 use Rattle.package_values.specs.Values.{Item, items_in, given, settled}
-use Rattle.package_values.proofs.Giving.{given_sound, HasRules, given_rules}
-use Rattle.signatures.specs.Signatures.{external_named, with_items}
+use Rattle.package_values.proofs.Giving.{given_sound}
+use Rattle.function_heads.specs.PackageBlock.{external_named, with_items}
 use Rattle.signatures.proofs.Growth.{extends_none}
-use Rattle.signatures.proofs.Visible.{IsShown, Visible, visible_beginning, visible_more}
-use Rattle.function_heads.specs.Heads.{are_supported}
-use Rattle.types_go.proofs.Package.{constant_one, numbered_one, variable_one, declared_one, items_kept, settled_kept}
+use Rattle.signatures.proofs.Visible.{IsShown, Visible, visible_more}
+use Rattle.types_go.proofs.Package.{constant_one, numbered_one, variable_one, type_one, declared_one, items_kept, settled_kept}
 
 module _ (P : Known → Type 0) where
   -- what is known of constants and variables is such
@@ -40,10 +39,6 @@ module _ (P : Known → Type 0) where
   set_known (p ∷ os) zero o one all (suc j) x is = all (suc j) x is
   set_known (p ∷ os) (suc k) o one all zero x is = all zero x is
   set_known (p ∷ os) (suc k) o one all (suc j) x is = set_known os k o one (λ i. all (suc i)) j x is
-
--- the types of the variables that are known have rules
-abbrev pub AreOfRules : Scope → Type 0
-AreOfRules s = (k : ℕ) (x : Known) → known s k ≡ Some x → HasRules x
 
 -- the package block names no variables of functions, its variables have their numbers, and its constants are held by their types
 module _ (text : List ℕ) where
@@ -84,6 +79,12 @@ module _ (text : List ℕ) where
   visible_variable s n false true v = let w = visible_named s n true v in record { bounded = w.bounded; shown = w.shown; held = more_known IsSound s.values v.held }
   visible_variable s n false false v = let w = visible_named s n false v in record { bounded = w.bounded; shown = w.shown; held = more_known IsSound s.values v.held }
 
+  visible_type : (s : Scope) (t : TypeSpec) (declares : Bool) → Visible s [] → Visible (type_one text s t declares) []
+  visible_type s t false v = record { bounded = v.bounded; shown = v.shown; held = v.held }
+  visible_type s t true v =
+      let w = visible_more s s.sites [] [] (spelled text t.name) («Type» (Struct (record { 0 = length s.fields }))) v (extends_none s.sites) (λ u h. h) tt in
+      record { bounded = w.0; shown = w.1; held = v.held }
+
   visible_known : (s : Scope) (k : ℕ) (i : Item) → Visible s [] → Visible (with_known s k (given text s i)) []
   visible_known s k i v = record { bounded = v.bounded; shown = v.shown; held = set_known IsSound s.values k (given text s i) (λ x is. given_sound text s s.values v.held i x is) v.held }
 
@@ -101,28 +102,7 @@ module _ (text : List ℕ) (heads : Scope) where
           let w = visible_more s s.sites [] [] (spelled text g.name) (Function (record { 0 = length s.signatures })) v (extends_none s.sites) (λ u h. h) tt in
           record { bounded = w.0; shown = w.1; held = v.held }
 
-  pub visible_package : (r : Scope) (ds : List Declaration) → are_supported text heads r ds ≡ true → Visible (settled text (with_items text heads beginning ds) (items_in ds)) []
-  visible_package r ds is =
-      settled_kept text (λ (s : Scope). Visible s []) (visible_known text) (with_items text heads beginning ds) (items_in ds) (items_kept text heads r (λ (s : Scope). Visible s []) (visible_constant text) (visible_variable text) visible_function beginning ds is visible_beginning)
-
-  -- the types of the variables that are known have rules
-
-  rules_constant : (s : Scope) (n : Name) (declares : Bool) → AreOfRules s → AreOfRules (constant_one text s n declares)
-  rules_constant s n true all = more_known (HasRules) s.values all
-  rules_constant s n false all = more_known (HasRules) s.values all
-
-  rules_variable : (s : Scope) (n : Name) (blank declares : Bool) → AreOfRules s → AreOfRules (variable_one text s n blank declares)
-  rules_variable s n true declares all = more_known (HasRules) s.values all
-  rules_variable s n false true all = more_known (HasRules) s.values all
-  rules_variable s n false false all = more_known (HasRules) s.values all
-
-  rules_function : (s : Scope) (g : TreeFunction) (external declares : Bool) → AreOfRules s → AreOfRules (declared_one text heads s g external declares)
-  rules_function s g true true all = all
-  rules_function s g true false all = all
-  rules_function s g false true all = all
-  rules_function s g false false all = all
-
-  pub rules_package : (r : Scope) (ds : List Declaration) → are_supported text heads r ds ≡ true → AreOfRules (settled text (with_items text heads beginning ds) (items_in ds))
-  rules_package r ds is =
-      settled_kept text AreOfRules (λ s k i all. set_known (HasRules) s.values k (given text s i) (given_rules text s i) all) (with_items text heads beginning ds) (items_in ds)
-      (items_kept text heads r AreOfRules rules_constant rules_variable rules_function beginning ds is (λ k x known_is. absurd (none_some known_is)))
+  pub visible_package : (s : Scope) (ds : List Declaration) → Visible s [] → Visible (settled text (with_items text heads s ds) (items_in ds)) []
+  visible_package s ds v =
+      settled_kept text (λ (r : Scope). Visible r []) (visible_known text) (with_items text heads s ds) (items_in ds)
+      (items_kept text heads (λ (r : Scope). Visible r []) (visible_constant text) (visible_variable text) (visible_type text) visible_function s ds v)

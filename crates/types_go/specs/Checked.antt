@@ -1,5 +1,5 @@
 -- What the checker of types answers.
-use Rattle.std.specs.Prelude.{◌≡◌, ℕ, List, map, slice_get, Some, Result, Ok, Err}
+use Rattle.std.specs.Prelude.{◌≡◌, ℕ, List, map, slice_get, Option, Some, Result, Ok, Err}
 use Rattle.base.specs.declared.pos.Pos.{Pos}
 use Rattle.syntax.specs.Declarations.{Syntax}
 use Rattle.typed_syntax.specs.Syntax.{Func, Program}
@@ -13,49 +13,73 @@ use Rattle.type_faults.specs.declared.fault.TypeFault.{TypeFault}
 use Rattle.type_faults.specs.declared.fault.TypeFault.TheVariants as type_fault
 use Rattle.type_faults.specs.declared.fault.Fault.{Fault}
 use Rattle.type_faults.specs.Least.{IsLeast}
+use Rattle.names.specs.Scope.{Scope}
+use Rattle.declared_structs.specs.Faults.{type_specs_in, AreTypes}
 use Rattle.package_values.specs.Values.{Item, items_in}
 use Rattle.package_values.specs.Needs.{Reaches}
 use Rattle.package_values.specs.Accepted.{DeclarationsAre}
-use Rattle.types_go.specs.Functions.{behind_members, globals, members, declarations_in, heads_of, numbered_functions, package_scope, main_number, program_functions}
-use Rattle.types_go.specs.FunctionFaults.{FailsIn}
+use Rattle.types_go.specs.Functions.{begun_at, behind_members, globals, members, declarations_in, IsHeads, numbered_functions, package_scope, main_number, program_functions}
+use Rattle.types_go.specs.FunctionFaults.{LargeInFunctions, StructsFail, FailsIn}
 
--- the variables, in the order of the text, and their places
-abbrev pub sites_in : Syntax → List Site
-sites_in t = (behind_members t.text (heads_of t) (package_scope t) (members t)).sites
-
-abbrev pub places_of : Syntax → List Pos
-places_of t = map (λ site. site.pos) (sites_in t)
+-- with these names of its package, the variables of a tree, in the order of the text
+abbrev pub sites_in : Syntax → Scope → List Site
+sites_in t h = (behind_members t.text h (package_scope t h) (members t h)).sites
 
 -- the places of the functions' names
-abbrev pub function_places : Syntax → List Pos
-function_places t = map (λ f. f.name.pos) (numbered_functions t)
+abbrev pub function_places : Syntax → Scope → List Pos
+function_places t h = map (λ f. f.name.pos) (numbered_functions t h)
+
+-- these are its sites, and its functions stand at these places
+abbrev pub AreSites : Syntax → List Site → Type 0
+AreSites t sites = (h : Scope) × IsHeads t h × (sites ≡ sites_in t h)
+
+abbrev pub AreAtNames : Syntax → List Pos → Type 0
+AreAtNames t places = (h : Scope) × IsHeads t h × (places ≡ function_places t h)
 
 -- the strings of its statements
-abbrev pub strings_in : Syntax → List (List ℕ)
-strings_in t = (behind_members t.text (heads_of t) (package_scope t) (members t)).strings
-
--- its package variables with a name, in the order of the text
-abbrev pub globals_in : Syntax → List (ℕ × Value)
-globals_in t = globals t.text (heads_of t) (package_scope t) (members t)
+abbrev pub strings_in : Syntax → Scope → List (List ℕ)
+strings_in t h = (behind_members t.text h (package_scope t h) (members t h)).strings
 
 -- its types, by their numbers
-abbrev pub types_in : Syntax → List TypeTree
-types_in t = trees (heads_of t).types
+abbrev pub types_in : Scope → List TypeTree
+types_in h = trees h.types
+
+abbrev pub sites_types : Syntax → Scope → List TypeTree
+sites_types t h = site_types (types_in h) (sites_in t h)
+
+-- its package variables with a name, in the order of the text, by the constants that they begin with
+abbrev pub globals_in : Syntax → Scope → List (ℕ × Option Value)
+globals_in t h = globals t.text h (package_scope t h) (members t h)
 
 -- the program of these functions with this one as `main`
-abbrev pub program_with : Syntax → List Func → ℕ → Program
-program_with t funcs main = record { funcs = funcs; types = types_in t; sites = site_types (types_in t) (sites_in t); strings = strings_in t; globals = globals_in t; main = main }
+abbrev pub program_with : Syntax → Scope → List Func → ℕ → Program
+program_with t h funcs main = record {
+  funcs = funcs;
+  types = types_in h;
+  sites = sites_types t h;
+  strings = strings_in t h;
+  globals = map (begun_at (sites_types t h)) (globals_in t h);
+  main = main;
+}
 
 -- the rules give a tree this typed program
 pub record Types (t : Syntax) (p : Program) : Type 0 where
+  pub heads : Scope
+  pub is_heads : IsHeads t heads
   pub funcs : List Func
   pub main : ℕ
-  pub functions : program_functions t ≡ Some funcs
-  pub main_is : main_number t ≡ Some main
+  pub functions : program_functions t heads ≡ Some funcs
+  pub main_is : main_number t heads ≡ Some main
+  -- no variable of a function has more words than a frame takes
+  pub framed : (f : Fault) → LargeInFunctions t.text heads (package_scope t heads) (members t heads) f → ⊥
+  -- each struct is a type, and no rule fails in its declaration
+  pub structs : AreTypes heads.types 0 (type_specs_in (declarations_in t))
+  pub structs_sound : (f : Fault) → StructsFail t heads f → ⊥
   -- the declarations of constants and variables are those of an accepted package, and none of these needs itself
-  pub declarations : DeclarationsAre t.text (package_scope t) (declarations_in t)
-  pub no_circle : (k : ℕ) (i : Item) → slice_get (items_in (declarations_in t)) k ≡ Some i → Reaches t.text (package_scope t) (items_in (declarations_in t)) k k → ⊥
-  pub is : p ≡ program_with t funcs main
+  pub declarations : DeclarationsAre t.text (package_scope t heads) (declarations_in t)
+  pub no_circle : (k : ℕ) (i : Item) → slice_get (items_in (declarations_in t)) k ≡ Some i
+      → Reaches t.text (package_scope t heads) (items_in (declarations_in t)) k k → ⊥
+  pub is : p ≡ program_with t heads funcs main
 
 -- the fault that is reported: of the rules that fail, the one with the least offset, then with the least number
 abbrev pub Reports : Syntax → TypeFault → Type 0

@@ -1,12 +1,14 @@
 -- The functions of a program (Go specification, "Function declarations", "Function types", "Blocks", "Program initialization and
 -- execution").
-use Rattle.std.specs.Prelude.{ℕ, ℤ, pos, length, ◌+◌, ◌-◌, ◌==◌, Bool, false, ◌||◌, List, [], ◌∷◌, ◌++◌, codes, map, Option, Some, None, option_and_then, if◌then◌else◌}
+use Rattle.std.specs.Prelude.{◌≡◌, ℕ, ℤ, pos, length, ◌+◌, ◌-◌, ◌==◌, Bool, false, ◌||◌, List, [], ◌∷◌, ◌++◌, codes, get_or, map, Option, Some, None, option_and_then, if◌then◌else◌}
 use Rattle.std.specs.Option.{option_map}
 use Rattle.syntax.specs.Expressions.{Ex as TreeEx, spelled}
 use Rattle.syntax.specs.Declarations.{named, Body, Function as TreeFunction, Declaration, constants, variables, types, Syntax}
 use Rattle.syntax.specs.Declarations as tree
 use Rattle.typed_syntax.specs.Syntax.{Sts, Func}
-use Rattle.typed_syntax.specs.Value.{Value, int, bool}
+use Rattle.typed_syntax.specs.Types.{TypeTree, ints}
+use Rattle.typed_syntax.specs.Value.{Value, int, bool, zero_of}
+use Rattle.typed.specs.Tables.{Table}
 use Rattle.constants.specs.declared.constant.Constant.{Constant}
 use Rattle.constants.specs.declared.constant.Constant.TheVariants.{Number, Truth}
 use Rattle.constants.specs.declared.constant.Fixed.{Fixed}
@@ -18,11 +20,17 @@ use Rattle.names.specs.Universe.{is_blank, is_main}
 use Rattle.names.specs.declared.scope.Known.{Known}
 use Rattle.names.specs.Scope.{Scope, declaration, known, with_site, opened, closed, beginning}
 use Rattle.expression_types.specs.Typing.{known_type, wanted_by, gives}
+use Rattle.struct_sizes.specs.Structs.{Fields}
+use Rattle.declared_structs.specs.Forms.{structs_in}
+use Rattle.declared_structs.specs.Tables.{IsTableOf}
+use Rattle.entered_types.specs.Entered.{entered_all}
 use Rattle.package_values.specs.declared.items.Role.TheVariants as role
 use Rattle.package_values.specs.Values.{Item, items_in_specs, items_in, constant_in, settled}
 use Rattle.signatures.specs.declared.entries.Role.TheVariants.{Parameter as parameter, Result as result}
 use Rattle.signatures.specs.Entries.{sites_of, entries, behind_entries}
-use Rattle.signatures.specs.Signatures.{params_of, is_named, is_small, with_heads, slots_of, signature_in, is_external, with_items}
+use Rattle.signatures.specs.Signatures.{params_of, is_named, is_small, with_heads}
+use Rattle.function_heads.specs.HeadTypes.{slots_of, signature_in}
+use Rattle.function_heads.specs.PackageBlock.{is_external, with_items}
 use Rattle.simple_statements.specs.SimpleStatements.{Returns}
 use Rattle.terminating.specs.Terminating.{ends_in_terminating}
 use Rattle.function_heads.specs.Heads.{number_of, slot_tree, plain_number, function_head, functions_in, are_supported}
@@ -49,7 +57,7 @@ abbrev pub type_or_int : Option Known → ValueType
 type_or_int None = Int
 type_or_int (Some k) = known_type k
 
--- what an int or a truth value begins with: the constant that its value gives, or else the zero value; variables of other types are refused
+-- what a variable begins with where a constant stands there: an int or a truth value
 abbrev pub int_in : Constant → ℤ
 int_in (Number z) = if is_int z then z else pos 0
 int_in (Truth b) = pos 0
@@ -58,12 +66,18 @@ abbrev pub truth_in : Constant → Bool
 truth_in (Number z) = false
 truth_in (Truth b) = b
 
-abbrev pub first_value : ValueType → Option Fixed → Value
-first_value Int None = int (pos 0)
-first_value Int (Some f) = int (int_in f.value)
-first_value Boolean None = bool false
-first_value Boolean (Some f) = bool (truth_in f.value)
-first_value t f = int (pos 0)
+abbrev pub begins : ValueType → Option Fixed → Option Value
+begins Int (Some f) = Some (int (int_in f.value))
+begins Boolean (Some f) = Some (bool (truth_in f.value))
+begins t c = None
+
+-- and where none does, with the zero value of its type, where these are the types of the sites
+abbrev pub or_zero : TypeTree → Option Value → Value
+or_zero t None = zero_of t
+or_zero t (Some v) = v
+
+abbrev pub begun_at : List TypeTree → ℕ × Option Value → ℕ × Value
+begun_at site_trees g = (g.0, or_zero (get_or site_trees g.0 ints) g.1)
 
 module _ (text : List ℕ) where
   -- with a name a variable has a site
@@ -74,9 +88,10 @@ module _ (text : List ℕ) where
   initial s None = None
   initial s (Some e) = constant_in (gives text s e)
 
-  -- the site of a variable with a name, and what it begins with
-  abbrev pub globals_of : Scope → ℕ → Item → List (ℕ × Value)
-  globals_of s k i = if is_blank (spelled text i.name) then [] else (length s.sites, first_value (type_or_int (known s k)) (initial s i.value)) ∷ []
+  -- the site of a variable with a name, and the constant that it begins with
+  abbrev pub globals_of : Scope → ℕ → Item → List (ℕ × Option Value)
+  globals_of s k i =
+      if is_blank (spelled text i.name) then [] else (length s.sites, begins (type_or_int (known s k)) (initial s i.value)) ∷ []
 
 -- in a text, among the names of its package
 module _ (text : List ℕ) (heads : Scope) where
@@ -157,8 +172,8 @@ module _ (text : List ℕ) (heads : Scope) where
   behind_members s (of_function f ∷ ms) = behind_members (behind_function s f) ms
   behind_members s (of_variable k v ∷ ms) = behind_members (behind_variable text s k v) ms
 
-  -- the package variables with a name: their sites, and what they begin with
-  abbrev pub globals : Scope → List Member → List (ℕ × Value)
+  -- the package variables with a name: their sites, and the constants that they begin with
+  abbrev pub globals : Scope → List Member → List (ℕ × Option Value)
   globals s [] = []
   globals s (of_function f ∷ ms) = globals (behind_function s f) ms
   globals s (of_variable k v ∷ ms) = globals_of text s k v ++ globals (behind_variable text s k v) ms
@@ -168,29 +183,51 @@ module _ (text : List ℕ) (heads : Scope) where
 abbrev pub declarations_in : Syntax → List Declaration
 declarations_in t = t.file.declarations
 
--- the names of its package, its functions that have numbers, and its package block
-abbrev pub heads_of : Syntax → Scope
-heads_of t = with_heads t.text beginning (declarations_in t)
+-- what its package declares but for its functions, where all is known of its constants that can be: these need no types of the program's own
+abbrev pub constants_scope : Syntax → Scope
+constants_scope t = settled t.text (with_heads t.text beginning (declarations_in t)) (items_in (declarations_in t))
 
-abbrev pub numbered_functions : Syntax → List TreeFunction
-numbered_functions t = functions_in t.text (heads_of t) (declarations_in t)
+-- its structs, by those constants
+abbrev pub structs_of : Syntax → List Fields
+structs_of t = structs_in t.text (constants_scope t) (declarations_in t)
 
-abbrev pub members : Syntax → List Member
-members t = members_in t.text (heads_of t) 0 (declarations_in t)
+-- the names of its package with a table of types, which all array types of the text have entered
+abbrev pub heads_with : Syntax → Table → Scope
+heads_with t T = entered_all t.text (record (constants_scope t) { types = T }) (declarations_in t)
 
-abbrev pub declared_scope : Syntax → Scope
-declared_scope t = with_items t.text (heads_of t) beginning (declarations_in t)
+-- the names of its package, with the types of the program: there is one such scope at most, since the verdicts on structs are one answer
+pub record IsHeads (t : Syntax) (h : Scope) : Type 0 where
+  pub table : Table
+  pub is_table : IsTableOf (structs_of t) table
+  pub is : h ≡ heads_with t table
+
+-- a block in which nothing is declared, with the types of such a scope
+abbrev pub block_with : Scope → Scope
+block_with h = record beginning { types = h.types }
+
+-- ---- with these names of its package
+
+-- its functions that have numbers, and its package block
+abbrev pub numbered_functions : Syntax → Scope → List TreeFunction
+numbered_functions t h = functions_in t.text h (declarations_in t)
+
+abbrev pub members : Syntax → Scope → List Member
+members t h = members_in t.text h 0 (declarations_in t)
+
+abbrev pub declared_scope : Syntax → Scope → Scope
+declared_scope t h = with_items t.text h (block_with h) (declarations_in t)
 
 -- where all is known of the constants and variables that can be
-abbrev pub package_scope : Syntax → Scope
-package_scope t = settled t.text (declared_scope t) (items_in (declarations_in t))
+abbrev pub package_scope : Syntax → Scope → Scope
+package_scope t h = settled t.text (declared_scope t h) (items_in (declarations_in t))
 
 -- in the package `main`
-abbrev pub main_number : Syntax → Option ℕ
-main_number t =
-    if is_main (spelled t.text t.file.package_name) then plain_number (numbered_functions t) (number_of (declaration (package_scope t) (codes "main"))) else None
+abbrev pub main_number : Syntax → Scope → Option ℕ
+main_number t h =
+    if is_main (spelled t.text t.file.package_name)
+    then plain_number (numbered_functions t h) (number_of (declaration (package_scope t h) (codes "main"))) else None
 
 -- the functions, where all declarations are of forms that are not left out
-abbrev pub program_functions : Syntax → Option (List Func)
-program_functions t =
-    allowed (are_supported t.text (heads_of t) (package_scope t) (declarations_in t)) (functions t.text (heads_of t) (package_scope t) 0 (members t))
+abbrev pub program_functions : Syntax → Scope → Option (List Func)
+program_functions t h =
+    allowed (are_supported t.text h (package_scope t h) (declarations_in t)) (functions t.text h (package_scope t h) 0 (members t h))

@@ -25,7 +25,7 @@ use Rattle.signatures.specs.EntryFaults.{EntriesFail}
 use Rattle.signatures.specs.Failing.{fault_where}
 use Rattle.simple_statements.specs.SimpleStatements.{Returns, lefts, all_wanted}
 use Rattle.simple_statements.specs.SimpleFaults.{names_place, ReturnFails, LeftsFail, FailsInSimple, FailsInSpecs}
-use Rattle.types_go.specs.Statements.{number_type, header, over, all_blank, clause_scope, behind, behind_all}
+use Rattle.types_go.specs.Statements.{number_type, header, all_blank, clause_scope, behind, behind_all}
 
 -- `range` goes over an int: any other value is reported at the word of the statement
 abbrev pub over_fault : Pos → Pos → Option Operand → Option Fault

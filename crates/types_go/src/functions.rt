@@ -1,45 +1,48 @@
 //! Functions: their heads, their parts, and the end of their bodies; and the package variables between them.
 
-ghost use Rattle.std.specs.Prelude.{◌≡◌, ◌<◌, ◌⊎◌, Option, Some, None, IfOk, OnOk, List, map, length, ◌-◌, ◌++◌, ◌&&◌, ◌||◌, ◌==◌};
+ghost use Rattle.std.specs.Prelude.{◌≡◌, ◌<◌, ◌⊎◌, Option, Some, None, IfOk, OnOk, List, map, length, drop, not, ◌-◌, ◌++◌, ◌&&◌, ◌||◌, ◌==◌};
 ghost use Rattle.std.specs.Option.{option_map};
 ghost use Rattle.base.specs.declared.pos.Pos.{Pos as Place};
 ghost use Rattle.syntax.specs.Expressions.{ex_of, spelled};
 ghost use Rattle.syntax.specs.Declarations.{parameters_of, body_of, function_of};
-ghost use Rattle.typed.specs.View.{func_of, value_of, global_of};
+ghost use Rattle.typed.specs.View.{func_of, value_of};
 ghost use Rattle.typed.specs.Trees.{trees};
 ghost use Rattle.typed_syntax.specs.Types.{TypeTree};
 ghost use Rattle.type_faults.specs.Least.{IsLeast};
+ghost use Rattle.type_faults.specs.Faults.{fault as fault_at, IsFault};
+ghost use Rattle.type_faults.specs.declared.fault.FaultKind.TheVariants.{OutOfProfile};
 ghost use Rattle.type_faults.specs.Given.{allowed};
 ghost use Rattle.names.specs.Universe.{is_blank};
 ghost use Rattle.names.specs.Scope.{scope_of, known, with_site};
 ghost use Rattle.type_faults.specs.Given.{with_last};
 ghost use Rattle.function_heads.specs.Assembled.{IsAt};
-ghost use Rattle.types_go.specs.Passing.{AreAt, member_views};
+ghost use Rattle.types_go.specs.Passing.{AreAt, member_views, global_view};
 ghost use Rattle.package_values.specs.Passing.{item_of};
 ghost use Rattle.signatures.specs.Failing.{fault_where};
 ghost use Rattle.expression_types.specs.Typing.{wanted_by};
 ghost use Rattle.simple_statements.specs.SimpleStatements.{returns_view};
 ghost use Rattle.signatures.specs.Signatures.{is_named};
-ghost use Rattle.types_go.specs.Functions.{returns_of, may_end, parts, function_with, function, functions_of, type_or_int, int_in, truth_in, first_value, behind_variable, initial, globals_of, functions, globals, behind_body, behind_function, behind_members};
-ghost use Rattle.types_go.specs.FunctionFaults.{FailsInParts, FailsWith, FailsInFunction, FailsInFunctions};
+ghost use Rattle.types_go.specs.Functions.{returns_of, may_end, parts, function_with, function, functions_of, type_or_int, int_in, truth_in, begins, behind_variable, initial, globals_of, functions, globals, behind_body, behind_function, behind_members};
+ghost use Rattle.types_go.specs.FunctionFaults.{FailsInParts, FailsWith, FailsInFunction, is_framed, LargeFails, MembersFail};
 
 use crate::blocks::check_stmts;
 use crate::members::Member;
 use base::{NoMemory, ValueType};
 use constants::{Constant, Fixed, int_constant};
 use expression_types::{Wanted, check_expr, known_type, wanted_by};
-use function_heads::{assemble, check_head, check_types, missing_body_fault};
+use function_heads::{assemble, check_head, check_words, missing_body_fault, slots_of};
 use names::{Known, Scope, ValueId, is_blank, spelled};
 use package_values::{Item, constant_in};
-use signatures::{
-    Role, Slot, check_entries, fault_where, has_some, is_named, slot_types, slots_of,
-};
+use signatures::{Role, Slot, check_entries, fault_where, has_some, is_named, slot_types};
 use simple_statements::Returns;
 use std::alloc::Global;
 use syntax::{Body, Expr, Func, Params};
 use terminating::ends_in_terminating;
 use type_faults::{Fault, FaultKind, lesser};
-use typed::{Const, PackageVariable};
+use typed::{Const, PackageVariable, Site, TypeTable};
+
+/// The most words of a variable of a function: one of more has no place in a frame, and none elsewhere yet.
+const MOST_WORDS: u32 = 8192;
 
 /// What is known of a function: its typed form, and the fault that is reported of it.
 #[derive(Drop)]
@@ -153,17 +156,17 @@ fn check_with_body(
     ensures scope { OnOk result (scope_of scope.new ≡ behind_body text.now (scope_of heads.now) (scope_of scope.old) (function_of f.now) (Some (body_of body.now))) }
 {
     let head = check_head(text, scope, number, f);
-    let types = check_types(alloc, text, heads, f)?;
+    let words = check_words(alloc, text, heads, f)?;
     let ends = may_end(text, heads, scope, f, body);
     let parts = check_parts(alloc, text, heads, scope, f, body)?;
     let own = Fault {
         kind: FaultKind::MissingReturn,
         pos: body.end,
     };
-    let head_fault = lesser(head.fault, types.fault);
+    let head_fault = lesser(head.fault, words.fault);
     let body_fault = lesser(parts.fault, fault_where(!ends, own));
     Ok(Function {
-        func: func_where(head.is_allowed, types.is_allowed, ends, parts.func),
+        func: func_where(head.is_allowed, words.is_allowed, ends, parts.func),
         fault: lesser(head_fault, body_fault),
     })
 }
@@ -182,11 +185,11 @@ fn check_external(
     ensures fault { IfOk result (λ r. IsLeast (FailsWith text.now (scope_of heads.now) (scope_of scope.now) number (function_of f.now) None) r.fault) }
 {
     let head = check_head(text, scope, number, f);
-    let types = check_types(alloc, text, heads, f)?;
+    let words = check_words(alloc, text, heads, f)?;
     let own = missing_body_fault(alloc, text, heads, f)?;
     Ok(Function {
         func: None,
-        fault: lesser(lesser(head.fault, types.fault), own),
+        fault: lesser(lesser(head.fault, words.fault), own),
     })
 }
 
@@ -257,16 +260,14 @@ fn truth_in(constant: Constant) -> bool
     }
 }
 
-/// What an int or a truth value begins with: the constant that its value gives, or else the zero value. Variables of other types are refused.
-fn first_value(value_type: ValueType, initial: Option<Fixed>) -> Const
-    ensures { value_of result ≡ first_value value_type initial }
+/// The constant that a variable begins with, where its value gives one: an int or a truth value.
+fn begins(value_type: ValueType, initial: Option<Fixed>) -> Option<Const>
+    ensures { option_map value_of result ≡ begins value_type initial }
 {
     match (value_type, initial) {
-        (ValueType::Int, None) => Const::Int(0),
-        (ValueType::Int, Some(fixed)) => Const::Int(int_in(fixed.value)),
-        (ValueType::Bool, None) => Const::Bool(false),
-        (ValueType::Bool, Some(fixed)) => Const::Bool(truth_in(fixed.value)),
-        _ => Const::Int(0),
+        (ValueType::Int, Some(fixed)) => Some(Const::Int(int_in(fixed.value))),
+        (ValueType::Bool, Some(fixed)) => Some(Const::Bool(truth_in(fixed.value))),
+        _ => None,
     }
 }
 
@@ -297,7 +298,7 @@ fn check_named(
     item: &Item,
 ) -> Result<PackageVariable, NoMemory>
     ensures scope { OnOk result (scope_of scope.new ≡ with_site (scope_of scope.old) (type_or_int (known (scope_of scope.old) number.0)) item.now.name.pos) }
-    ensures global { IfOk result (λ g. (types : List TypeTree) → global_of types g ≡ (length (scope_of scope.old).sites, first_value (type_or_int (known (scope_of scope.old) number.0)) (initial text.now (scope_of scope.old) (item_of item.now).value))) }
+    ensures global { IfOk result (λ g. global_view g ≡ (length (scope_of scope.old).sites, begins (type_or_int (known (scope_of scope.old) number.0)) (initial text.now (scope_of scope.old) (item_of item.now).value))) }
 {
     let value_type = type_or_int(scope.known(number));
     let initial = initial(alloc, text, scope, item.value)?;
@@ -305,7 +306,7 @@ fn check_named(
     scope.add_site(value_type, item.name.pos)?;
     Ok(PackageVariable {
         site,
-        value: Some(first_value(value_type, initial)),
+        value: begins(value_type, initial),
     })
 }
 
@@ -319,7 +320,7 @@ fn check_variable(
     item: &Item,
 ) -> Result<(), NoMemory>
     ensures scope { OnOk result (scope_of scope.new ≡ behind_variable text.now (scope_of scope.old) number.0 (item_of item.now)) }
-    ensures globals { OnOk result ((types : List TypeTree) → map (global_of types) globals.new.items ≡ map (global_of types) globals.old.items ++ globals_of text.now (scope_of scope.old) number.0 (item_of item.now)) }
+    ensures globals { OnOk result (map global_view globals.new.items ≡ map global_view globals.old.items ++ globals_of text.now (scope_of scope.old) number.0 (item_of item.now)) }
 {
     if is_blank(spelled(text, item.name)) {
         return Ok(());
@@ -327,6 +328,29 @@ fn check_variable(
     let global = check_named(alloc, text, scope, number, item)?;
     globals.push(global)?;
     Ok(())
+}
+
+/// The fault of a variable of a function that has more words than a frame takes.
+#[tactic(auto, using(type_faults::proofs::Leasts::leaf))]
+fn site_fault(types: &TypeTable, site: Site) -> Option<Fault>
+    ensures { IsLeast (IsFault (fault_where (not (is_framed types.now site)) (fault_at OutOfProfile site.pos))) result }
+{
+    let own = Fault {
+        kind: FaultKind::OutOfProfile,
+        pos: site.pos,
+    };
+    fault_where(!(types.width(site.type_id) <= MOST_WORDS), own)
+}
+
+/// The fault of the variables of a function, whose sites stand from one on.
+fn large_fault(types: &TypeTable, sites: &[Site], first: usize) -> Option<Fault>
+    ensures { IsLeast (LargeFails types.now (drop first sites.now)) result }
+{
+    let mut fault = None;
+    for index in first..sites.len() {
+        fault = lesser(fault, site_fault(types, sites[index]));
+    }
+    fault
 }
 
 /// The functions and the variables of a package, one after the other.
@@ -339,21 +363,24 @@ pub fn check_members(
 ) -> Result<Members, NoMemory>
     requires { 0 < length scope.old.names }
     ensures funcs { IfOk result (λ r. option_map (λ v. map (func_of (trees (scope_of heads.now).types)) v.items) r.funcs ≡ functions text.now (scope_of heads.now) (scope_of scope.old) 0 (member_views members.now)) }
-    ensures globals { IfOk result (λ r. (types : List TypeTree) → map (global_of types) r.globals.items ≡ globals text.now (scope_of heads.now) (scope_of scope.old) (member_views members.now)) }
+    ensures globals { IfOk result (λ r. map global_view r.globals.items ≡ globals text.now (scope_of heads.now) (scope_of scope.old) (member_views members.now)) }
     ensures places { IfOk result (λ r. AreAt (map (λ f. f.name.pos) (functions_of (member_views members.now))) (option_map (λ v. v.items) r.funcs)) }
-    ensures fault { IfOk result (λ r. IsLeast (FailsInFunctions text.now (scope_of heads.now) (scope_of scope.old) 0 (member_views members.now)) r.fault) }
+    ensures fault { IfOk result (λ r. IsLeast (MembersFail text.now (scope_of heads.now) (scope_of scope.old) (member_views members.now)) r.fault) }
     ensures scope { OnOk result (scope_of scope.new ≡ behind_members text.now (scope_of heads.now) (scope_of scope.old) (member_views members.now)) }
 {
     let mut funcs = Some(Vec::new(alloc));
     let mut globals = Vec::new(alloc);
     let mut fault = None;
+    let mut large = None;
     let mut number: usize = 0;
     for member in members {
         match member {
             Member::Function(f) => {
+                let first = scope.site_count();
                 let checked = check_function(alloc, text, heads, scope, number, f)?;
                 funcs = with_func(funcs, checked.func)?;
                 fault = lesser(fault, checked.fault);
+                large = lesser(large, large_fault(&heads.types, &scope.sites, first));
                 number += 1;
             }
             Member::Variable(value, item) => {
@@ -364,6 +391,6 @@ pub fn check_members(
     Ok(Members {
         funcs,
         globals,
-        fault,
+        fault: lesser(fault, large),
     })
 }

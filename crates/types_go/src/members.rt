@@ -3,15 +3,15 @@
 ghost use Rattle.std.specs.Prelude.{◌≡◌, ◌++◌, ◌∷◌, [], IfOk, OnOk, map, length, drop, if◌then◌else◌};
 ghost use Rattle.syntax.specs.Declarations.{function_of, declaration_of, declarations_of};
 ghost use Rattle.names.specs.Scope.{scope_of};
-ghost use Rattle.signatures.specs.Signatures.{is_external};
+ghost use Rattle.function_heads.specs.PackageBlock.{is_external};
 ghost use Rattle.package_values.specs.Passing.{item_views, items_of_decl};
 ghost use Rattle.types_go.specs.Functions.{of_function, numbered, members_in};
 ghost use Rattle.types_go.specs.Passing.{member_views, members_of_decl};
 
 use base::NoMemory;
+use function_heads::is_external;
 use names::{Scope, ValueId};
 use package_values::{Item, add_decl};
-use signatures::is_external;
 use std::alloc::Global;
 use syntax::{Decl, Func};
 

@@ -14,7 +14,8 @@ use Rattle.signatures.specs.declared.slots.Slot.{Slot}
 use Rattle.signatures.specs.declared.entries.Role.TheVariants.{Parameter, Result}
 use Rattle.signatures.specs.Entries.{entries, behind_entries}
 use Rattle.signatures.specs.EntryFaults.{EntriesFail}
-use Rattle.signatures.specs.Signatures.{params_of, is_named, slot_of, slots_of}
+use Rattle.signatures.specs.Signatures.{params_of, is_named}
+use Rattle.function_heads.specs.HeadTypes.{slot_of, slots_of}
 use Rattle.signatures.proofs.Growth.{grows_entries}
 use Rattle.expression_types.specs.Typing.{wanted_by}
 use Rattle.simple_statements.specs.SimpleStatements.{Returns, returns_view}

@@ -2,7 +2,7 @@ use Rattle.std.proofs.Common.{◌≡◌, Bool, true, false, cond, [], ◌∷◌,
 use Rattle.std.proofs.lemmas.List.{map-append}
 use Rattle.syntax.specs.Declarations.{function_of}
 use Rattle.names.specs.Scope.{scope_of}
-use Rattle.signatures.specs.Signatures.{is_external}
+use Rattle.function_heads.specs.PackageBlock.{is_external}
 use Rattle.types_go.specs.Functions.{of_function}
 use Rattle.types_go.specs.Passing.{member_of, member_views}
 use Rattle.types_go.proofs.members.add_function.Goals as goal
