@@ -1,0 +1,5 @@
+pub mod Lengths
+pub mod Growth
+pub mod Walks
+pub mod Known
+pub mod Standing
