@@ -5,6 +5,8 @@ are hidden and declared anew; the exact values of constants, so that none is out
 each run is short; and what a call does, so that nothing depends on an order of evaluation that Go leaves open: no call stands
 after a read of a package variable that it changes, nor one that shows something after an operation that may panic, unless the
 order is fixed.
+
+A kind is `int`, `bool`, the name of a struct, or `[3]T` of another kind; types are written in several ways.
 """
 import collections
 import random
@@ -18,6 +20,8 @@ PREDECLARED = ["len", "cap", "append", "iota", "string", "print", "byte", "min"]
 TEXTS = ['"at"', '"a\\tb"', '""', '"\\"q\\\\"', '"é \\u00e9\\xc3\\xa9"', '"\\101\\x42"', '("in")']
 ALL = frozenset(["everything"])
 OUTSIDE = ["func readInt() (int, bool)", "func exit(code int)"]
+SCALARS = ["int", "bool"]
+FIELDS = ["a", "x", "y", "n", "len", "T0", "main", "é"]
 
 # A text, how tight its outermost operator binds, its constant, whether that has a type, and whether it is a shift of a constant
 # without a type by what is no constant, or an operation on such: Go gives it the type that its place asks for.
@@ -61,11 +65,13 @@ class Variable:
 
 
 class Program:
-    """One random program. Kinds are int and bool; a value is its text with how tight its outermost operator binds."""
+    """One random program. A value is its text with how tight its outermost operator binds."""
 
     def __init__(self, seed, number, small=False):
         self.random = random.Random(f"{seed}/{number}")
         self.small = small
+        self.structs, self.kinds, self.lengths = {}, [], {}
+        self.safe, self.heading, self.inside = False, False, 0
         self.names = {}
         self.blocks = [self.names]
         self.reads, self.risky = set(), False
@@ -81,8 +87,45 @@ class Program:
     def one(self, items):
         return self.random.choice(list(items))
 
-    def kind(self):
+    def scalar(self):
         return "bool" if self.chance(0.3) else "int"
+
+    def kind(self):
+        return self.one(self.kinds) if self.kinds and self.chance(0.3) else self.scalar()
+
+    # Kinds with parts.
+
+    def array(self, kind):
+        """The length of an array, and the kind of its elements."""
+        length, element = kind[1:].split("]", 1)
+        return int(length), element
+
+    def parts(self, kind):
+        """What stands behind a value for each of its parts, and the kind of that."""
+        if kind in SCALARS:
+            return []
+        if kind in self.structs:
+            return [("." + name, it) for name, it in self.structs[kind]]
+        length, element = self.array(kind)
+        return [(f"[{index}]", element) for index in range(length)]
+
+    def holds(self, kind, part):
+        return kind == part or any(self.holds(it, part) for _, it in self.parts(kind))
+
+    def scalars_of(self, text, kind):
+        """The texts of all ints and bools in a value."""
+        if kind in SCALARS:
+            return [text]
+        return [it for behind, part in self.parts(kind) for it in self.scalars_of(text + behind, part)]
+
+    def spelled(self, kind):
+        """A way to write a type."""
+        if kind in SCALARS or kind in self.structs:
+            return f"({kind})" if self.chance(0.02) else kind
+        length, element = self.array(kind)
+        ways = [str(length)] * 4 + [f"{length - 1} + 1", f"({length})"]
+        ways += [name for name, it in self.lengths.items() if it == length]
+        return f"[{self.one(ways)}]{self.spelled(element)}"
 
     def sees(self, name):
         """What a name stands for here; nothing for one that no block declares."""
@@ -193,11 +236,13 @@ class Program:
         """A value of a kind. What it has read and whether it may panic is noted for the calls after it."""
         if self.small:
             depth = min(depth, 2)
+        if kind not in SCALARS:
+            return self.whole_value(kind, depth)
         if depth <= 0 or self.chance(0.15):
             return self.leaf(kind)
         roll = self.random.random()
         if roll < 0.2:
-            called = self.call([kind], depth - 1)
+            called = self.call([kind], depth - 1) if self.chance(0.8) else self.field_of_call(kind, depth - 1)
             if called:
                 return called
         if roll < 0.3:
@@ -227,7 +272,7 @@ class Program:
             right = self.value("bool", depth - 1)
             self.reads, self.risky = before
         else:
-            kind = "bool" if op in ("==", "!=") and self.chance(0.3) else "int"
+            kind = self.kind() if op in ("==", "!=") else "int"
             left, right = self.value(kind, depth - 1), self.value(kind, depth - 1)
         if left.constant is not None and right.constant is not None:
             return left if isinstance(left.constant, bool) else self.leaf("bool")
@@ -240,7 +285,7 @@ class Program:
             it = Value(self.number(value), 9, value)
             return self.prefixed("-", it) if self.chance(0.3) else it
         it = self.value("int", depth)
-        if roll < 0.92:
+        if roll < 0.92 or self.safe:
             one = Value("1", 9, 1)
             return one if it.constant is not None else self.joined("|", it, one)
         self.panics()
@@ -256,7 +301,7 @@ class Program:
         if it.constant is not None or it.loose:
             self.use_again(before)
             return Value("3", 9, 3)
-        if roll < 0.94:
+        if roll < 0.94 or self.safe:
             mask = self.one([7, 63, 127, MOST])
             return self.joined("&", it, Value(self.number(mask), 9, mask))
         self.panics()
@@ -267,9 +312,9 @@ class Program:
         self.loud = True
 
     def leaf(self, kind):
-        found = self.variables(kind)
-        if found and self.chance(0.75):
-            return self.read(*self.one(found))
+        found = self.place(kind) if self.chance(0.75) else None
+        if found:
+            return Value(found[0], 9)
         for _ in range(5):
             it = self.constant(kind, 2)
             if isinstance(it.constant, bool) or LEAST <= it.constant <= MOST:
@@ -280,7 +325,113 @@ class Program:
         variable.used = True
         if variable.package:
             self.reads.add(name)
-        return Value(name, 9)
+
+    def place(self, kind, to_write=False):
+        """The text of a variable of a kind, or of a part of one, with its name; it is noted as read, or as written."""
+        names = sorted({name for block in self.blocks for name in block})
+        found = [(name, self.sees(name)) for name in names]
+        found = [it for it in found if isinstance(it[1], Variable) and self.holds(it[1].kind, kind)]
+        found = [it for it in found if not (to_write and it[1].fixed)]
+        if not found:
+            return None
+        name, variable = self.one(found)
+        if not to_write:
+            self.read(name, variable)
+        elif variable.package and self.writes is not ALL:
+            self.writes = self.writes | {name}
+        text, here = name, variable.kind
+        while here != kind:
+            text, here = self.one([(text + behind, part) for behind, part in self.parts(here) if self.holds(part, kind)])
+            if text.endswith("]"):
+                before, index = text.rsplit("[", 1)
+                length = len(self.parts(self.kind_of(variable.kind, before[len(name):])))
+                text = f"{before}[{self.index(int(index[:-1]), length)}]"
+        return text, name
+
+    def kind_of(self, kind, behind):
+        """The kind of the part that a text behind a value of a kind leads to; indices may be any values."""
+        while behind:
+            if behind[0] == ".":
+                name = re.match(r"\.(\w+)", behind).group(1)
+                kind, behind = dict(self.structs[kind])[name], behind[len(name) + 1:]
+            else:
+                depth = 0
+                for end, it in enumerate(behind):
+                    depth += (it == "[") - (it == "]")
+                    if depth == 0:
+                        break
+                kind, behind = self.array(kind)[1], behind[end + 1:]
+        return kind
+
+    def index(self, number, length):
+        """An index of an array: this number, or an int of which some bits may count, or one that may be out of range."""
+        roll = self.random.random()
+        if roll < 0.5 or self.times > 200 or self.inside > 1:
+            return self.number(number)
+        before = self.uses()
+        self.inside += 1
+        it = self.value("int", 1)
+        self.inside -= 1
+        if it.constant is not None:
+            self.use_again(before)
+            return self.number(number)
+        if roll < 0.96 or self.safe:
+            mask = max(2**bits - 1 for bits in range(4) if 2**bits <= length)
+            return self.joined("&", it, Value(self.number(mask), 9, mask)).text
+        self.panics()
+        limit = self.one([length, length + 1])
+        return self.joined("%", it, Value(self.number(limit), 9, limit)).text
+
+    def whole_value(self, kind, depth):
+        """A value with parts: a variable, a part of one, what a call gives, or a literal."""
+        roll = self.random.random()
+        if roll < 0.25 and depth > 0:
+            called = self.call([kind], depth - 1)
+            if called:
+                return called
+        found = self.place(kind) if roll < 0.75 else None
+        if found:
+            return Value(found[0], 9)
+        text = self.literal(kind, depth)
+        return Value(f"({text})" if self.heading or self.chance(0.05) else text, 9)
+
+    def literal(self, kind, depth, bare=False):
+        begin = "" if bare else kind if kind in self.structs else self.spelled(kind)
+        if kind in self.structs:
+            fields = list(self.structs[kind])
+            keyed = depth <= 0 or self.chance(0.4)
+            if keyed:
+                fields = self.random.sample(fields, self.random.randrange(len(fields) + 1) if depth > 0 else 0)
+            kinds = [it for _, it in fields]
+            keys = [name + self.one([":", ": "]) if keyed else "" for name, _ in fields]
+        else:
+            length, element = self.array(kind)
+            kinds = [element] * (self.random.randrange(length + 1) if depth > 0 else 0)
+            keys = [""] * len(kinds)
+        texts = []
+        for key, it in zip(keys, kinds):
+            if kind not in self.structs and it not in SCALARS and self.chance(0.6):
+                texts.append(self.literal(it, depth - 1, True))
+            else:
+                texts.append(key + self.held(self.value(it, depth - 1)).text)
+        return begin + "{" + ", ".join(texts) + ("," if texts and self.chance(0.1) else "") + "}"
+
+    def field_of_call(self, kind, depth):
+        """A field of what a call gives."""
+        found = [(name, fields) for name, fields in self.structs.items() if kind in [it for _, it in fields]]
+        if not found:
+            return None
+        name, fields = self.one(found)
+        it = self.call([name], depth)
+        return it and Value(it.text + "." + self.one([field for field, of in fields if of == kind]), 9)
+
+    def in_header(self, kind, depth=3):
+        """A value before the brace of a block, where a literal stands in parentheses."""
+        before, self.heading = self.heading, True
+        try:
+            return self.value(kind, depth)
+        finally:
+            self.heading = before
 
     def call(self, results, depth):
         """A call that gives these kinds, where one may stand here: its effects may not come before what stands to its left."""
@@ -409,11 +560,11 @@ class Program:
             kinds = [self.kind()] * len(new)
             way = self.random.random()
             if way < 0.35:
-                text = f"var {', '.join(new)} {kinds[0]}"
+                text = f"var {', '.join(new)} {self.spelled(kinds[0])}"
             elif way < 0.7:
-                text = f"var {', '.join(new)} {kinds[0]} = {self.values(kinds)}"
+                text = f"var {', '.join(new)} {self.spelled(kinds[0])} = {self.values(kinds)}"
             elif way < 0.8:
-                text = f"var ({new[0]} {kinds[0]})"
+                text = f"var ({new[0]} {self.spelled(kinds[0])})"
                 mine = sides = new[:1]
             else:
                 kinds = [self.kind() for _ in new]
@@ -428,38 +579,34 @@ class Program:
         kinds = [self.kind() for _ in range(self.one([1, 1, 1, 2, 2, 3]))]
         sides = []
         for kind in kinds:
-            found = self.variables(kind, to_write=True)
-            if not found or self.chance(0.08):
-                sides.append("_")
-            else:
-                name, it = self.one(found)
-                sides.append(name)
-                if it.package and self.writes is not ALL:
-                    self.writes = self.writes | {name}
-        if len(kinds) > 1 and self.chance(0.4):
-            mine = self.random.sample(sides, len(sides))
-            kinds_of = {side: kind for side, kind in zip(sides, kinds)}
-            if "_" not in sides and [kinds_of[it] for it in mine] == kinds:
-                for name in mine:
-                    self.sees(name).used = True
-                return self.line(f"{', '.join(sides)} = {', '.join(mine)}")
-        return self.line(f"{', '.join(sides)} = {self.values(kinds)}")
+            found = self.place(kind, to_write=True) if self.chance(0.92) else None
+            sides.append(found or ("_", "_"))
+            self.safe = self.risky
+        texts = [text for text, _ in sides]
+        try:
+            if len(kinds) > 1 and self.chance(0.4) and "_" not in texts and "(" not in "".join(texts):
+                mine = self.random.sample(range(len(sides)), len(sides))
+                if [kinds[index] for index in mine] == kinds:
+                    for index in mine:
+                        self.read(sides[index][1], self.sees(sides[index][1]))
+                    return self.line(f"{', '.join(texts)} = {', '.join(texts[index] for index in mine)}")
+            return self.line(f"{', '.join(texts)} = {self.values(kinds)}")
+        finally:
+            self.safe = False
 
     def updates(self, depth):
-        found = self.variables("int", to_write=True)
+        found = self.place("int", to_write=True)
         if not found:
             return []
-        name, it = self.one(found)
-        it.used = True
-        if it.package:
-            self.reads.add(name)
-            if self.writes is not ALL:
-                self.writes = self.writes | {name}
+        text, name = found
+        self.read(name, self.sees(name))
         if self.chance(0.3):
-            return self.line(name + self.one(["++", "--"]))
+            return self.line(text + self.one(["++", "--"]))
         op = self.one(["+", "-", "*", "/", "%", "&", "|", "^", "&^", "<<", ">>"])
+        self.safe = self.risky
         right = self.divisor(2) if op in "/%" else self.count(2) if op in ("<<", ">>") else self.held(self.value("int", 2))
-        return self.line(f"{name} {op}= {right.text}")
+        self.safe = False
+        return self.line(f"{text} {op}= {right.text}")
 
     def prints(self, depth):
         if self.sees("println"):
@@ -467,7 +614,7 @@ class Program:
         self.loud = True
         texts = []
         for _ in range(self.random.randrange(4)):
-            texts.append(self.one(TEXTS) if self.chance(0.15) else self.value(self.kind(), 2).text)
+            texts.append(self.one(TEXTS) if self.chance(0.15) else self.value(self.scalar(), 2).text)
         name = "println" if self.chance(0.85) or self.sees("print") else "print"
         return self.line(f"{name}({', '.join(texts)})")
 
@@ -478,7 +625,7 @@ class Program:
 
     def ends(self, depth):
         """What leaves the function, the loop or the program, behind a condition."""
-        condition = self.value("bool", 2).text
+        condition = self.in_header("bool", 2).text
         self.statement_begins()
         ways = ["return"] + ["break", "continue"] * 2 * (self.loops > 0)
         if self.chance(0.3):
@@ -488,7 +635,7 @@ class Program:
             way = self.gives()
         elif way == "panic":
             self.loud = True
-            way = f"panic({self.one(TEXTS) if self.chance(0.4) else self.held(self.value(self.kind(), 1)).text})"
+            way = f"panic({self.one(TEXTS) if self.chance(0.4) else self.held(self.value(self.scalar(), 1)).text})"
         elif way == "exit":
             self.loud = True
             way = f"exit({self.held(self.value('int', 1)).text})"
@@ -514,19 +661,21 @@ class Program:
             return "", {}
         if roll < 0.8:
             name, kind = self.one(NAMES[:11]), self.kind()
-            text = f"{name} := {self.value(kind, 2).text}; "
+            text = f"{name} := {self.in_header(kind, 2).text}; "
             return text, {name: Variable(kind)}
+        self.heading = True
         made = self.updates(0) if roll < 0.9 else self.calls(0)
+        self.heading = False
         return (made[0].strip().split(" //")[0].rstrip(";") + "; ", {}) if made else ("", {})
 
     def chooses(self, depth):
         first, names = self.header()
         self.statement_begins()
         self.blocks.append(names)
-        lines = ["\t" * self.indent + f"if {first}{self.value('bool').text} {{"] + self.body(depth - 1)
+        lines = ["\t" * self.indent + f"if {first}{self.in_header('bool').text} {{"] + self.body(depth - 1)
         while self.chance(0.3):
             self.statement_begins()
-            lines += ["\t" * self.indent + f"}} else if {self.value('bool', 2).text} {{"] + self.body(depth - 1)
+            lines += ["\t" * self.indent + f"}} else if {self.in_header('bool', 2).text} {{"] + self.body(depth - 1)
         if self.chance(0.4):
             lines += ["\t" * self.indent + "} else {"] + self.body(depth - 1)
         unused = [name for name, it in names.items() if not it.used]
@@ -554,7 +703,7 @@ class Program:
         if self.chance(0.3):
             self.blocks.append(names)
             self.times *= rounds + 1
-            test += f" && {self.value('bool', 2).text}" if self.chance(0.5) else ""
+            test += f" && {self.in_header('bool', 2).text}" if self.chance(0.5) else ""
             self.times //= rounds + 1
             self.blocks.pop()
         more = ["\t" * (self.indent + 1) + name + ("++" if up else "--")] if self.chance(0.2) else []
@@ -566,7 +715,7 @@ class Program:
         return head + self.loop(depth, rounds, names, stop + more) + self.line("}")
 
     def ranges(self, depth):
-        limit = self.value("int", 2)
+        limit = self.in_header("int", 2)
         if limit.constant is None:
             limit = self.joined(self.one(["&", "%"]), limit, Value("4", 9, 4))
         else:
@@ -640,7 +789,7 @@ class Program:
         texts = []
         for index, (name, kind) in enumerate(its):
             grouped = name and index + 1 < len(its) and its[index + 1][1] == kind and self.chance(0.5)
-            texts.append(name if grouped else f"{name} {kind}".strip())
+            texts.append(name if grouped else f"{name} {self.spelled(kind)}".strip())
         return ", ".join(texts)
 
     def body_of_function(self, first):
@@ -654,7 +803,7 @@ class Program:
             tail = self.gives()
             if self.chance(0.2):
                 self.statement_begins()
-                condition = self.value("bool", 2).text
+                condition = self.in_header("bool", 2).text
                 tail = f"if {condition} {{ {self.gives()} }} else {{ {tail} }}"
         for name, it in self.blocks[1].items():
             if isinstance(it, Variable) and not it.used:
@@ -674,11 +823,40 @@ class Program:
             results = [("", kind) for _, kind in results]
         return f"f{index}", parameters, results, deep
 
+    def types(self):
+        """Structs, of which each may hold those before it, the kinds of variables, and names of lengths."""
+        if self.chance(0.2):
+            return []
+        self.lengths = {"L2": 2, "L3": 3} if self.chance(0.5) else {}
+        groups = [["const L3 = L2 + 1"], ["const L2 int = 2"]] if self.lengths else []
+        for index in range(self.random.randrange(1, 3 if self.small else 4)):
+            names = self.random.sample(FIELDS, self.random.randrange(1, 5))
+            fields = [(name, self.kind() if self.chance(0.7) else self.scalar()) for name in names]
+            if len(self.scalars_of("", f"[1]{fields[0][1]}")) > 8:
+                fields[0] = (fields[0][0], "int")
+            self.structs[f"T{index}"] = fields
+            self.kinds.append(f"T{index}")
+            if self.chance(0.7):
+                self.kinds.append(f"[{self.random.randrange(1, 5)}]{self.one(SCALARS + self.kinds)}")
+            shown = self.shown_fields(fields)
+            form = self.one(["type T%d struct { %s }", "type T%d struct {\n\t%s\n}", "type ( T%d struct { %s } )"])
+            groups.append([form % (index, shown)])
+        while sum(len(self.scalars_of("", kind)) for kind in self.kinds) > 60:
+            self.kinds.remove(max(self.kinds, key=lambda kind: len(self.scalars_of("", kind))))
+        return groups
+
+    def shown_fields(self, fields):
+        texts = []
+        for index, (name, kind) in enumerate(fields):
+            grouped = index + 1 < len(fields) and fields[index + 1][1] == kind and self.chance(0.5)
+            texts.append(name + (", " if grouped else f" {self.spelled(kind)}; "))
+        return "".join(texts).rstrip("; ")
+
     def package(self):
-        """Constants and package variables, in some order."""
-        groups, names = [], [f"C{index}" for index in range(6)] + self.random.sample(PREDECLARED, 2 * self.chance(0.2))
+        """Constants, types and package variables, in some order."""
+        groups, names = self.types(), [f"C{index}" for index in range(6)] + self.random.sample(PREDECLARED, 2 * self.chance(0.2))
         for name in names[self.random.randrange(5):]:
-            kind = self.kind()
+            kind = self.scalar()
             it = self.constant(kind, 4)
             typed = self.chance(0.3) and (kind == "bool" or LEAST <= it.constant <= MOST)
             self.names[name] = Value(name, 9, it.constant, typed or it.typed)
@@ -693,11 +871,14 @@ class Program:
         names = [f"v{index}" for index in range(5)] + PREDECLARED[:2]
         for name in self.random.sample(names, self.random.randrange(1, 3 if self.small else 6)):
             kind = self.kind()
-            it = self.constant(kind, 3)
             if name in self.names:
                 continue
             package[name] = variable = Variable(kind, package=True)
             variable.used = True
+            if kind not in SCALARS:
+                groups.append([self.one(["var %s %s", "var (%s %s)", "var %s, _ %s"]) % (name, self.spelled(kind))])
+                continue
+            it = self.constant(kind, 3)
             if not kind == "bool" and not LEAST <= it.constant <= MOST or self.chance(0.3):
                 groups.append([self.one(["var %s %s", "var (%s %s)", "var %s, _ %s"]) % (name, kind)])
             else:
@@ -717,7 +898,7 @@ class Program:
             groups.append(self.function(f"Entry{number}", (f"entry{number}", [("given", "int"), ("good", "bool")], [], False)))
             entries.append(f"entry{number}")
         self.inputs = len(entries)
-        shown = [name for name, it in self.names.items() if isinstance(it, Variable)]
+        shown = [text for name, it in self.names.items() if isinstance(it, Variable) for text in self.scalars_of(name, it.kind)]
         shown += [name for name, it in self.names.items() if isinstance(it, Value) and LEAST <= it.constant <= MOST]
         lines = ["func main() {", "\twhich, _ := readInt()"]
         for number, name in enumerate(entries):
@@ -736,9 +917,10 @@ class Program:
             joint, last = "\n", before.rstrip()[-1:]
             if self.chance(0.04) and "//" not in before and before not in OUTSIDE and line not in OUTSIDE:
                 if last == "{":
-                    joint = self.one([" ", "\n\n", "\r\n", " /* a\n b */ ", ";"])
+                    joint = self.one([" ", "\n\n", "\r\n", " /* a\n b */ "] + [";"] * ("struct" not in before))
                 elif re.match(r"[\w)}\"]", last) or before.endswith(("++", "--")):
-                    joint = self.one(["; ", "\r\n", " /* a\n b */ ", " /* a */ // b\n"] + [";;\n"] * before.startswith("\t"))
+                    empty = [";;\n"] * (before[0] == "\t" and line != "}")
+                    joint = self.one(["; ", "\r\n", " /* a\n b */ ", " /* a */ // b\n"] + empty)
             out += joint + line
         return out
 
@@ -747,31 +929,55 @@ class Program:
 
 TOKEN = re.compile(
     r'\s+|//[^\n]*|/\*.*?\*/|"(?:\\.|[^"\\])*"|\w+|&\^=|<<=|>>=|&\^|<<|>>|:=|\+\+|--|&&|\|\||[-+*/%&|^=!<>]=|.', re.S)
-OPERATORS = list(PRECEDENCE) + ["!", "=", ":=", "+=", "<<=", "++", "--", ",", ";"]
-KEYWORDS = "break const continue else for func if package range return var".split()
+OPERATORS = list(PRECEDENCE) + ["!", "=", ":=", "+=", "<<=", "++", "--", ",", ";", ".", "[", "]", "{", "}", ":"]
+KEYWORDS = "break const continue else for func if package range return struct type var".split()
 WORDS = [
-    "int", "bool", "true", "nil", "_", "println", "panic", "main", "0", "1", "-1", "u", "9223372036854775808", '"s"', "C0",
-    "v0", "f0", "f1", "entry0", "f0()", "f1(1)", "1 << 64", "x", "a", "readInt()", "1 == 1", "given", "good", "depth",
+    "int", "bool", "true", "nil", "_", "println", "panic", "main", "0", "1", "-1", "u", "9223372036854775808", '"s"', "C0", "v0",
+    "f0", "f1", "entry0", "f0()", "f1(1)", "1 << 64", "x", "a", "readInt()", "1 == 1", "given", "good", "depth", "T0", "T1",
+    "T0{}", "[2]int", "[2]T0{}", "v0.a", "v0[1]", "L2",
 ]
 STATEMENTS = [
     "break", "continue", "return", "return 1", "return true, 2", "x := 1", "var x int", "var x, y bool = true, 1", "x = 1",
     "f0()", "1", "a++", "good++", "a, good = good, a", "for { }", "for { break }", "for true { }", "panic(1)",
     "if good { return }", "given += true", "_ = nil", "given := 2", "given, k := 2, 3", "{ return 1 }",
-    "for i, _ := range 3 { _ = i }", "for given = range good { }", "_ := 1", "exit(1, 2)", "for _ := range 3 { }",
-    "if given { }", "println(f0)", "println(int)", "C0 = 1", "f0 = 1", "good = 1 < 2", "given <<= good", "good <<= 1",
-    "given = 1 / 0", "given %= 0", "given = 1 << -1", "const x = 1", "var C0, C1 = C0, C1", "println(readInt())",
-    "for x := range 3 { x = true }",
+    "for i, _ := range 3 { _ = i }", "for given = range good { }", "_ := 1", "exit(1, 2)", "for _ := range 3 { }", "if given { }",
+    "println(f0)", "println(int)", "C0 = 1", "f0 = 1", "good = 1 < 2", "given <<= good", "good <<= 1", "given = 1 / 0",
+    "given %= 0", "given = 1 << -1", "const x = 1", "var C0, C1 = C0, C1", "println(readInt())", "for x := range 3 { x = true }",
+    "p := T0{}", "p := T0{1}", "p := T0{1, true}", "p := T0{a: 1, x: 2}", "p := T0{x: 1, x: 2}", "p := T0{a: 1, 2}",
+    "println(T0{})", "panic(T0{})", "var p, q T0", "var a [2]int", "var a [given]int", "var a [0]T0", "a := [2]int{1, 2, 3}",
+    "a := [2]T0{{}, {}}", "a := [2][1]int{{1}, {2}}; a[given&1][0]++", "a := [2]int{{1}, 2}", "_ = T0{} == T0{}",
+    "_ = [1]int{} == [2]int{}", "_ = [2]int{} == [1 + 1]int{}", "_ = T0{} < T0{}", "_ = T0{} == T1{}", "var a [3]int; a[3] = 1",
+    "var a [3]int; a[-1]++", "var a [3]int; a[given] = true", "var a [3]bool; a[true] = good", "var a [3]int; a[1 << 70]++",
+    "f0().x = 1", "T0{}.a = 1", "var p T0; p.a, p.x = p.x, p.a", "var p T0; p.a.a = 1", "given.x = 1", "given[0] = 1", "f0.x = 1",
+    "T0.a = 1", "if T0{} == T0{} { }", "if (T0{}) == (T0{}) { }", "for _, p := 0, T0{}; good; { _ = p; break }", "_ = T0{}.a",
+    "_ = T0{}.zz", "var p T0; p = T1{}", "_ = int{}", "_ = given{1}", "var T0 int; _ = T0{}", "var a [2]int; a.x = 1",
+    "var a [2]int; _ = a == nil", "_ = -T0{}", "var p T0; p++", "var p T0; p += p", "var a [2]T0; a[1].a = 1",
+    "var a [2]T0; a[1] = T0{}; a[0], a[1] = a[1], a[0]", "return T0{}", "f0(T0{})", "f0([2]int{})",
 ]
 HEADS = [
     "const C0 = 1", "var v0 bool", "func f0() int { }", "func f9() int { for { } }", "func f9() int { for { break } }",
     "const P, Q = Q, 1", "const P = P", "const P = v0", "var P = C0 << 70", "var P bool = 1",
     "func f9() (x int) { x := 1; return }", "func f9(a int, a bool) { }", "const int = 3",
-    "func f9() (x int) { { x := true; return } }", "func f9() int { if C9 { return 1 } else { panic(2) } }",
-    "const C9 = 1 > 2", "var P = Q; var Q = P", "func f9() int { for { for { break } } }",
-    "func f9() int { for { if true { break } } }", "func f9() int { { return 1 } }", "func f9(int, x bool) { }",
-    "const P int = 1 << 63", "const P = 1 << 63 >> 1; var Q int = P", "const P bool = 1 == 1; const Q = P == 1",
-    "func main() { }", "var bool = true", "func f9() int { panic(1); }", "func f9() int { exit(1) }",
-    "func f9() bool { return 1 == 1 && v0 == v0 }", "func println() { }", "var P int = nil",
+    "func f9() (x int) { { x := true; return } }", "func f9() int { if C9 { return 1 } else { panic(2) } }", "const C9 = 1 > 2",
+    "var P = Q; var Q = P", "func f9() int { for { for { break } } }", "func f9() int { for { if true { break } } }",
+    "func f9() int { { return 1 } }", "func f9(int, x bool) { }", "const P int = 1 << 63",
+    "const P = 1 << 63 >> 1; var Q int = P", "const P bool = 1 == 1; const Q = P == 1", "func main() { }", "var bool = true",
+    "func f9() int { panic(1); }", "func f9() int { exit(1) }", "func f9() bool { return 1 == 1 && v0 == v0 }",
+    "func println() { }", "var P int = nil", "type T0 struct { a T0 }", "type T9 struct { a T0; b [2]T9 }", "type T9 struct { }",
+    "type T9 struct { a int; a bool }", "type T9 struct { a, b int }; var P T9; var Q = P",
+    "type T9 struct { a T8 }; type T8 struct { b [2]T9 }",
+    "type T9 struct { a T8 }; type T8 struct { b int }; func f9(p T9) int { return p.a.b }", "type int struct { a bool }",
+    "type T9 struct { int int; bool bool }", "type T9 struct { a [N9]int }; const N9 = 4; var P T9; var Q = P.a",
+    "const N9 = 3; var P [N9]int; var Q [3]int = P", "var P [Q]int; const Q = 2", "var P [Q]int; var Q = 2", "var P [f0()]int",
+    "var P [-1]int", "var P [1 << 70]int", "var P [true]bool", "func f9(a [2]T0) (b T0) { return a[0] }",
+    "func f9(p T0) int { return p }", "func f9(p T0) (q T0) { q = p; return }", "var P = T0{}", "const P = T0{}",
+    "const P T0 = 1", "const P [2]int = 1", "var P T0 = 1", "func f9(a [2]int) { a[0], a[1] = a[1], a[0] }",
+    "func f9(T0 int) T0 { return T0 }", "func f9(T0 int, p T0) { }", "func T0() { }", "var T0 int", "const T0 = 1", "type P T0",
+    "type P [2]int", "type P int", "type P = int", "func f9() [2]int { return [2]int{} }",
+    "func f9() [2]int { return [...]int{1, 2} }", "func f9() (p, q T0) { return q, p }",
+    "func f9(a [2]int) int { return len(a) }", "func f9(a [2]int) { for i, x := range a { println(i, x) } }",
+    "func f9(p *T0) { }", "func f9(p []T0) { }", "func f9(a [2]zz) { }", "type T9 struct { T0 }", "type T9 struct { a, a int }",
+    "type T9 struct { _ int }", "type T9 struct { a [9]T7 }", "type main struct { a int }",
 ]
 
 
@@ -813,6 +1019,7 @@ def changed(text, chosen):
     elif way < 19:
         index = chosen.choice(words)
         forms = ["(%s)", "!%s", "-%s", "+%s", "^%s", "%s()", "%s(%s)", "%s, %s", "%s + 1", "%s == %s", "%s\n", "%s;"]
+        forms += ["%s.a", "%s[0]", "%s{}", "[2]%s", "%s{%s}"]
         tokens[index] = chosen.choice(forms).replace("%s", tokens[index])
     else:
         tokens[index] = chosen.choice(WORDS + OPERATORS) + " " + tokens[index]
