@@ -1,186 +1,76 @@
--- The births of the package variables, with which a program begins.
-use Rattle.std.proofs.Common.{◌≡◌, ◌≢◌, ℕ, zero, suc, ◌+◌, ◌<◌, ◌≤◌, Bool, true, false, List, [], ◌∷◌, ◌++◌, length, Some, refl, sym, ap, ◌∙◌, subst, arith, get_or, length-append, inl, inr}
-use Rattle.std.specs.Prelude.{slice_get, slice_index, map, nat_le, ◌==◌, ◌||◌, if◌then◌else◌}
-use Rattle.std.proofs.lemmas.Bool.{eq-eqb}
-use Rattle.std.proofs.lemmas.Bool.Decides.{leb_tells}
-use Rattle.std.proofs.lemmas.List.{get_or_append_left, get_or-append-add, length-map, map-append}
-use Rattle.typed_syntax.specs.Types.{TypeTree, ints, width}
-use Rattle.typed_syntax.specs.Value.{Value, Values, int, bool, composite, no_values, more_values, words, IsOf, FitsWords, FitWords}
-use Rattle.typed_syntax.specs.Words.{bit_of, word_of, contents, contents_in, words_of, Hold}
-use Rattle.typed_syntax.specs.Placement.{among}
-use Rattle.meaning.specs.Trace.{Ending, HeapLimit, World}
-use Rattle.meaning.specs.Store.{value_of, born}
+-- A variable of a site is born.
+use Rattle.std.proofs.Common.{◌≡◌, inl, ℕ, suc, ◌+◌, ◌-◌, ◌<◌, ◌≤◌, List, [], ◌∷◌, length, Some, refl, sym, ap, subst, arith, get_or}
+use Rattle.std.specs.Prelude.{slice_get}
+use Rattle.typed_syntax.specs.Types.{ints, width}
+use Rattle.typed_syntax.specs.Value.{IsOf, zero_of}
+use Rattle.typed_syntax.specs.Words.{contents}
+use Rattle.typed_syntax.specs.Syntax.{site_type}
+use Rattle.typed_syntax.specs.Form.{InScope}
+use Rattle.value_laws.proofs.Zeros.{zero_is}
+use Rattle.meaning.specs.Trace.{World, Cell, Trace, Born, Note}
+use Rattle.meaning.specs.Store.{no_cell, value_of, born}
 use Rattle.meaning.specs.Meaning
-use Rattle.meaning.specs.Meaning.{Go, Setting}
-use Rattle.meaning.specs.Output.{Limits, Sight, out}
-use Rattle.simulation.specs.Outcome as Run
-use Rattle.simulation.specs.Outcome.{Lines, Outcome}
-use Rattle.simulation.specs.Follows.{Follows}
-use Rattle.simulation.proofs.Rules
-use Rattle.isa.specs.Bin as Bin
-use Rattle.machine.specs.Machine.{Event}
-use Rattle.machine.specs.declared.run_state.Ending.{Ending as Stop}
-use Rattle.machine.specs.declared.run_state.Ending.TheVariants.{HeapLimit as Full}
-use Rattle.program_code.specs.Code.{globals_before}
-use Rattle.value_laws.proofs.Lists.{held_joined}
-use Rattle.value_laws.proofs.Parts.{count_of, words_count}
-use Rattle.simulated_code.specs.Correct.{same_event, same_end, first_words, begun}
-use Rattle.simulated_code.proofs.PackageWords.{no_global, sites_of}
-use Rattle.simulated_code.proofs.Frames.{StandsFor, nothing}
-use Rattle.simulated_code.proofs.Changes.{born_earlier, born_value, born_length}
-use Rattle.simulated_code.proofs.Composites.{held_stand_in}
-use Rattle.simulated_code.proofs.Numbers.{number_stands}
-use Rattle.simulated_code.proofs.Crossing.{different}
-use Rattle.simulated_code.proofs.Scopes.{first_or, second_or}
+use Rattle.meaning.specs.Meaning.{Setting}
+use Rattle.simulation.specs.Steps.{Goes}
+use Rattle.isa.specs.declared.instr.Instr.{Instr}
+use Rattle.machine.specs.Machine.{words_at}
+use Rattle.program_code.specs.Code.{site_slot, slots_of}
+use Rattle.state_relation.specs.Leaves.{leaves}
+use Rattle.state_relation.specs.Views.{View, on_stack, after_stack}
+use Rattle.state_relation.specs.Relation.{Memory, puts, Frame, grown, Stand, depth, NamedAt}
+use Rattle.state_relation.proofs.Lists.{get_is}
+use Rattle.state_relation.proofs.Relation.{site_inside}
+use Rattle.state_relation.proofs.Changes.{home_value}
+use Rattle.state_relation.proofs.Births.{birth}
+use Rattle.state_relation.proofs.Calls.{birth_seen}
+use Rattle.state_relation.proofs.Built.{Built}
+use Rattle.state_relation.proofs.Rules.{state_of, does_at, At, Stands, knowing, stepped_as}
 
--- no package variable has the site
-pub none_among : (site : ℕ) (gs : List (ℕ × Value)) → ((i : ℕ) (g : ℕ × Value) → slice_get gs i ≡ Some g → g.0 ≢ site) → among site gs ≡ false
-none_among site [] apart = refl
-none_among site (g ∷ gs) apart = ap (λ b. b || among site gs) (different g.0 site (apart 0 g refl)) ∙ none_among site gs (λ i h e. apart (suc i) h e)
+module _ (m : Built) where
+  -- the instruction that gives the site its words
+  pub births_at : {lo hi b : ℕ} {rest : Trace} {G G1 : Memory → Type 0} (c : Frame) (calls : List Frame) (v : View) (w : World) (site n pc : ℕ) (cell : Cell) (i : Instr) (xs : Memory → List ℕ) → slice_get m.code.instrs pc ≡ Some i → c.func.first ≤ site → site < c.func.first + c.func.count
+      → cell.type ≡ site_type m.program site → IsOf cell.type cell.value → ((s : Memory) → G s → Stands m v w (c ∷ calls) s) → ((s : Memory) → G s → does_at m i pc s ≡ Goes [] (state_of m (pc + 1) (puts s (site_slot (slots_of m.program c.func) site) (xs s))))
+      → ((s : Memory) → G s → Stand v.homes s.hi w (leaves cell.type) (contents cell.value) (xs s))
+      → ((s : Memory) → G s → Stands m (after_stack v (depth m.program (c ∷ calls) - site_slot (slots_of m.program c.func) site)) (born w cell) (grown c site (length w.store) ∷ calls) (puts s (site_slot (slots_of m.program c.func) site) (xs s)) → G1 (puts s (site_slot (slots_of m.program c.func) site) (xs s)))
+      → At m lo hi b (after_stack v (depth m.program (c ∷ calls) - site_slot (slots_of m.program c.func) site)) rest G1 (pc + 1) → At m (suc lo) 1 b v (Note (Born site n) rest) G pc
+  births_at {lo} {hi} {b} {rest} c calls v w site n pc cell i xs here first last kind is stands does stand keeps post =
+      let d = depth m.program (c ∷ calls) - site_slot (slots_of m.program c.func) site in
+      knowing m (λ s0 g0.
+      let k = stands s0 g0 in
+      stepped_as m {lo = lo} {hi = hi} {b = b} {v1 = after_stack v d} {t1 = rest} i (λ s. puts s (site_slot (slots_of m.program c.func) site) (xs s)) here
+      (λ r. birth_seen m v w c calls s0 site n r rest (m.stacked c.fn c.func k.homed.owned.0.named site first last) k)
+      (λ s g. (does s g, refl, keeps s g (birth m.program m.max m.solid v w c calls s site d cell (xs s) first last refl kind is (stand s g) (stands s g)))) post)
 
--- all have sites with this
-abbrev AllOn : (ℕ → Bool) → List (ℕ × Value) → Type 0
-AllOn on [] = Unit {0}
-AllOn on (g ∷ gs) = (on g.0 ≡ true) × AllOn on gs
+  -- the words of a site in scope
+  pub site_stand : (c : Frame) (calls : List Frame) (v : View) (w : World) (s : Memory) (site : ℕ) → InScope site c.scope → Stands m v w (c ∷ calls) s
+      → Stand v.homes s.hi w (leaves (site_type m.program site)) (contents (value_of w (c.env site))) (words_at s.words (site_slot (slots_of m.program c.func) site) (width (site_type m.program site)))
+  site_stand c calls v w s site i g =
+      let d = depth m.program (c ∷ calls) - site_slot (slots_of m.program c.func) site in let t = site_type m.program site in
+      let name : NamedAt m.program (c ∷ calls) (c.env site) d t = inl (site, i, refl, refl, refl) in
+      let r = g.homed.named (c.env site) d t name in let among = g.homed.owned.0.among site i in
+      let inside = site_inside m.program c.func site among.0 among.1 in let u = g.sized.used in
+      let from : length s.words - (d - 0) ≡ site_slot (slots_of m.program c.func) site = omega (arith, inside.1) in
+      let st = home_value m.program m.max v w (c ∷ calls) s (c.env site) r.0 (on_stack d) [] t r.1 (g.homed.slots (c.env site) d t name) r.2 g in
+      subst (λ k. Stand v.homes s.hi w (leaves t) (contents (value_of w (c.env site))) (words_at s.words k (width t))) from
+      (subst (λ x. Stand v.homes s.hi w (leaves t) (contents x) (words_at s.words (length s.words - (d - 0)) (width t))) (sym (ap (λ (k : Cell). k.value) (get_is w.store (c.env site) r.0 no_cell r.1))) st)
 
-all_more : (on also : ℕ → Bool) (gs : List (ℕ × Value)) → ((site : ℕ) → on site ≡ true → also site ≡ true) → AllOn on gs → AllOn also gs
-all_more on also [] more all = tt
-all_more on also (g ∷ gs) more all = (more g.0 all.0, all_more on also gs more all.1)
+  pub site_typed : (c : Frame) (calls : List Frame) (v : View) (w : World) (s : Memory) (site : ℕ) → InScope site c.scope → Stands m v w (c ∷ calls) s → IsOf (site_type m.program site) (value_of w (c.env site))
+  site_typed c calls v w s site i g =
+      let d = depth m.program (c ∷ calls) - site_slot (slots_of m.program c.func) site in let t = site_type m.program site in
+      let name : NamedAt m.program (c ∷ calls) (c.env site) d t = inl (site, i, refl, refl, refl) in
+      let r = g.homed.named (c.env site) d t name in
+      subst (λ x. IsOf t x) (sym (ap (λ (k : Cell). k.value) (get_is w.store (c.env site) r.0 no_cell r.1))) (subst (λ o. IsOf o r.0.value) r.2 (g.homed.typed (c.env site) r.0 r.1))
 
-pub all_among : (gs : List (ℕ × Value)) → AllOn (λ site. among site gs) gs
-all_among [] = tt
-all_among (g ∷ gs) = (
-  first_or (g.0 == g.0) (among g.0 gs) (eq-eqb g.0 g.0 refl),
-  all_more (λ site. among site gs) (λ site. among site (g ∷ gs)) gs (λ site e. second_or (g.0 == site) (among site gs) e) (all_among gs),
-)
+  pub site_room : (c : Frame) (calls : List Frame) (v : View) (w : World) (s : Memory) (site : ℕ) → c.func.first ≤ site → site < c.func.first + c.func.count → Stands m v w (c ∷ calls) s → site_slot (slots_of m.program c.func) site + width (site_type m.program site) ≤ length s.words
+  site_room c calls v w s site first last g = let inside = site_inside m.program c.func site first last in let u = g.sized.used in omega (arith, inside.1)
 
--- the words that are taken, where some are after others
-abbrev pub taken : List ℕ → List (List ℕ) → List ℕ
-taken heap [] = heap
-taken heap (ws ∷ more) = taken (heap ++ ws) more
+  -- what a new variable of a site is
+  module _ (around : Setting) (sites : around.sites ≡ m.program.sites) where
+    pub cell_kind : (site : ℕ) → get_or around.sites site ints ≡ site_type m.program site
+    cell_kind site = ap (λ ts. get_or ts site ints) sites
 
--- each begins with a value of its site's type, whose whole numbers are of 64 bits
-abbrev pub AllFit : List TypeTree → List (ℕ × Value) → Type 0
-AllFit sites [] = Unit {0}
-AllFit sites (g ∷ gs) = (IsOf (get_or sites g.0 ints) g.1 × FitsWords g.1) × AllFit sites gs
+    pub zero_value : (site : ℕ) → Meaning.zero_of around site ≡ zero_of (site_type m.program site)
+    zero_value site = ap zero_of (cell_kind site)
 
--- the words of a value hold what it holds
-bit_same : (b : Bool) → bit_of b ≡ Bin.bit_of b
-bit_same true = refl
-bit_same false = refl
-
-mutual
-  words_hold : (v : Value) → FitsWords v → Hold StandsFor (contents v) (words_of v)
-  words_hold (int z) fits = (number_stands z fits, tt)
-  words_hold (bool b) fits = (bit_same b, tt)
-  words_hold (composite vs) fits = words_hold_in vs fits
-
-  words_hold_in : (vs : Values) → FitWords vs → Hold StandsFor (contents_in vs) (map word_of (contents_in vs))
-  words_hold_in no_values fits = tt
-  words_hold_in (more_values v vs) fits =
-      subst (λ ws. Hold StandsFor (contents v ++ contents_in vs) ws) (sym (map-append word_of (contents v) (contents_in vs)))
-      (held_joined StandsFor (contents v) (contents_in vs) (words_of v) (map word_of (contents_in vs)) (words_hold v fits.0)
-      (words_hold_in vs fits.1))
-
-first_long : (t : TypeTree) (v : Value) → IsOf t v → length (words_of v) ≡ width t
-first_long t v is = length-map (contents v) word_of ∙ count_of t v is
-
-pub taken_length : (sites : List TypeTree) (gs : List (ℕ × Value)) (heap : List ℕ) → AllFit sites gs
-    → length (taken heap (first_words gs)) ≡ length heap + globals_before sites (sites_of gs) (length gs)
-taken_length sites [] heap fit = omega arith
-taken_length sites ((site, v) ∷ gs) heap fit =
-    let long = first_long (get_or sites site ints) v fit.0.0 in
-    omega (arith, taken_length sites gs (heap ++ words_of v) fit.1, length-append heap (words_of v), long)
-
-taken_earlier : (wss : List (List ℕ)) (heap : List ℕ) (i : ℕ) → i < length heap → slice_index (taken heap wss) i ≡ slice_index heap i
-taken_earlier [] heap i l = refl
-taken_earlier (ws ∷ wss) heap i l = taken_earlier wss (heap ++ ws) i (omega (arith, length-append heap ws))
-    ∙ get_or_append_left heap ws 0 i l
-
--- and so they stand in the heap
-pub taken_stands : (sites : List TypeTree) (gs : List (ℕ × Value)) (heap : List ℕ) (g j : ℕ) → AllFit sites gs → g < length gs
-    → j < width (get_or sites (get_or gs g no_global).0 ints)
-    → StandsFor (get_or (contents (get_or gs g no_global).1) j nothing)
-    (slice_index (taken heap (first_words gs)) (length heap + globals_before sites (sites_of gs) g + j))
-taken_stands sites [] heap g j fit l k = absurd (omega arith)
-taken_stands sites ((site, v) ∷ gs) heap zero j fit l k =
-    let long = first_long (get_or sites site ints) v fit.0.0 in let count = count_of (get_or sites site ints) v fit.0.0 in
-    let at : length heap + 0 + j ≡ length heap + j = omega arith in
-    subst (λ x. StandsFor (get_or (contents v) j nothing) x)
-    (sym (taken_earlier (first_words gs) (heap ++ words_of v) (length heap + 0 + j)
-    (omega (arith, length-append heap (words_of v), long)) ∙ ap (slice_index (heap ++ words_of v)) at
-    ∙ get_or-append-add heap (words_of v) j 0))
-    ((held_stand_in (contents v) (words_of v) (words_hold v fit.0.1)).each j (omega (arith, count)))
-taken_stands sites ((site, v) ∷ gs) heap (suc g) j fit l k =
-    let rest = globals_before sites (sites_of gs) g in let n = width (get_or sites site ints) in
-    let long = first_long (get_or sites site ints) v fit.0.0 in
-    let at : length (heap ++ words_of v) + rest + j ≡ length heap + (n + rest) + j =
-    omega (arith, length-append heap (words_of v), long) in
-    subst (λ i. StandsFor (get_or (contents (get_or gs g no_global).1) j nothing)
-    (slice_index (taken (heap ++ words_of v) (first_words gs)) i)) at
-    (taken_stands sites gs (heap ++ words_of v) g j fit.1 (omega arith) k)
-
-module _ (around : Setting) where
-  -- the state after the births
-  abbrev pub born_all : List (ℕ × Value) → World → World
-  born_all [] w = w
-  born_all (g ∷ gs) w = born_all gs (born w (Meaning.new_cell around 0 g.0 g.1))
-
-  pub reads_kept : (gs : List (ℕ × Value)) (w : World) → (born_all gs w).reads ≡ w.reads
-  reads_kept [] w = refl
-  reads_kept (g ∷ gs) w = reads_kept gs (born w (Meaning.new_cell around 0 g.0 g.1))
-
-  pub all_length : (gs : List (ℕ × Value)) (w : World) → length (born_all gs w).store ≡ length w.store + length gs
-  all_length [] w = omega arith
-  all_length (g ∷ gs) w = let cell = Meaning.new_cell around 0 g.0 g.1 in omega (arith, all_length gs (born w cell), born_length w cell)
-
-  all_earlier : (gs : List (ℕ × Value)) (w : World) (v : ℕ) → v < length w.store → value_of (born_all gs w) v ≡ value_of w v
-  all_earlier [] w v l = refl
-  all_earlier (g ∷ gs) w v l = let cell = Meaning.new_cell around 0 g.0 g.1 in all_earlier gs (born w cell) v (omega (arith, l, born_length w cell)) ∙ born_earlier w cell v l
-
-  pub all_values : (gs : List (ℕ × Value)) (w : World) (i : ℕ) → i < length gs → value_of (born_all gs w) (length w.store + i) ≡ (get_or gs i no_global).1
-  all_values [] w i l = absurd (omega arith)
-  all_values (g ∷ gs) w zero l =
-      let cell = Meaning.new_cell around 0 g.0 g.1 in
-      let e : length w.store + 0 ≡ length w.store = omega arith in
-      ap (value_of (born_all gs (born w cell))) e ∙ all_earlier gs (born w cell) (length w.store) (omega (arith, born_length w cell)) ∙ born_value w cell
-  all_values (g ∷ gs) w (suc i) l =
-      let cell = Meaning.new_cell around 0 g.0 g.1 in
-      let e : length w.store + suc i ≡ length (born w cell).store + i = omega (arith, born_length w cell) in
-      ap (value_of (born_all gs (born w cell))) e ∙ all_values gs (born w cell) i (omega arith)
-
-  -- They follow: each takes its words of the heap, until one has no room.
-  module _ (l : Limits) (strings : List (List ℕ)) (g : Go) (run : List ℕ → ℕ → Outcome Event Stop) (b : ℕ) where
-    abbrev Follow : Lines Sight Ending → (ℕ → Outcome Event Stop) → Type 0
-    Follow t m = Follows Sight Event Ending Stop same_event (same_end strings) 0 0 b t m
-
-    pub globals_follow : (gs : List (ℕ × Value)) (w : World) (heap : List ℕ) → AllOn l.on_heap gs → length heap ≤ l.heap_max
-        → (length (taken heap (first_words gs)) ≤ l.heap_max
-        → Follow (out l [] (length (taken heap (first_words gs))) (g (born_all gs w))) (run (taken heap (first_words gs))))
-        → Follow (out l [] (length heap) (Meaning.bear_globals around gs g w))
-        (λ k. begun l.heap_max heap (first_words gs) (λ ws. run ws k))
-    globals_follow [] w heap on le post = post le
-    globals_follow ((site, v) ∷ gs) w heap on le post =
-        let u = born w (Meaning.new_cell around 0 site v) in let t = Meaning.bear_globals around gs g u in
-        let n = length (words_of v) in let have = length heap in let rest = first_words gs in
-        let same : n ≡ words v = length-map (contents v) word_of ∙ sym (words_count v) in
-        subst (λ x. Follow (if x then (if nat_le (have + words v) l.heap_max then out l [] (have + words v) t else Run.End
-        (HeapLimit have (words v) l.heap_max)) else out l [] have t)
-        (λ k. if nat_le (have + n) l.heap_max then begun l.heap_max (heap ++ words_of v) rest (λ ws. run ws k) else Run.Ends
-        (Full have n l.heap_max))) (sym on.0)
-        (subst (λ c. Follow (if nat_le (have + c) l.heap_max then out l [] (have + c) t else Run.End (HeapLimit have c l.heap_max))
-        (λ k. if nat_le (have + n) l.heap_max then begun l.heap_max (heap ++ words_of v) rest (λ ws. run ws k) else Run.Ends
-        (Full have n l.heap_max))) same
-        (elim (leb_tells (have + n) l.heap_max) [
-          | inl p ↦ subst (λ x. Follow (if x then out l [] (have + n) t else Run.End (HeapLimit have n l.heap_max))
-              (λ k. if x then begun l.heap_max (heap ++ words_of v) rest (λ ws. run ws k) else Run.Ends
-              (Full have n l.heap_max))) (sym p.0)
-              (subst (λ c. Follow (out l [] c t) (λ k. begun l.heap_max (heap ++ words_of v) rest (λ ws. run ws k)))
-              (length-append heap (words_of v))
-              (globals_follow gs u (heap ++ words_of v) on.1 (let fits = p.1 in omega (arith, length-append heap (words_of v))) post))
-          | inr p ↦ subst (λ x. Follow (if x then out l [] (have + n) t else Run.End (HeapLimit have n l.heap_max))
-              (λ k. if x then begun l.heap_max (heap ++ words_of v) rest (λ ws. run ws k) else Run.Ends
-              (Full have n l.heap_max))) (sym p.0)
-              (Rules.ended Sight Event Ending Stop same_event (same_end strings) {lo = 0} {hi = 0} {b = b}
-              (HeapLimit have n l.heap_max) (Full have n l.heap_max) (refl, refl, refl) (λ k. refl))
-        ]))
+    pub zero_typed : (site : ℕ) → IsOf (get_or around.sites site ints) (Meaning.zero_of around site)
+    zero_typed site = zero_is (get_or around.sites site ints)

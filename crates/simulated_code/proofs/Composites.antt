@@ -1,81 +1,34 @@
 -- Values with parts in temps: a part that is taken, a part that is put, and a value that stands up to a part.
-use Rattle.std.proofs.Common.{◌≡◌, ◌⊎◌, inl, inr, ℕ, zero, suc, ◌+◌, ◌-◌, ◌<◌, ◌≤◌, Bool, true, false, ◌&&◌, List, [], ◌∷◌, ◌++◌, length, refl, sym, ap, ◌∙◌, subst, arith, get_or, append_assoc, append-nil, length-append, take_at}
-use Rattle.std.specs.Prelude.{nat_le, slice_index, take, drop, replicate}
-use Rattle.std.proofs.lemmas.List.{get_or-take, get_or-drop, length-drop, length-replicate, length-take-le, take-append-drop, take_all}
+use Rattle.std.proofs.Common.{◌≡◌, ◌⊎◌, inl, inr, ℕ, zero, suc, ◌+◌, ◌-◌, ◌<◌, ◌≤◌, Bool, true, false, ◌&&◌, List, [], ◌∷◌, ◌++◌, length, Some, refl, sym, ap, ◌∙◌, subst, arith, get_or, append_assoc, length-append, take_at}
+use Rattle.std.specs.Prelude.{nat_le, slice_get, slice_index, take, drop, replicate}
+use Rattle.std.proofs.lemmas.List.{get_or-take, get_or-drop, get_or_append_left, get_or-append_right, length-drop, length-replicate, length-take-le, take-append-drop, take_all}
 use Rattle.std.proofs.Math.Seq.{take-add}
 use Rattle.std.proofs.lemmas.Bool.{true≢false, leb-true}
+use Rattle.std.proofs.lemmas.Option.{slice_get_within}
 use Rattle.typed_syntax.specs.Types.{TypeTree, PartTypes, no_types, more_types, width, widths, types_in, nth_type, widths_before, part_types, part_count, part_type, part_offset}
-use Rattle.typed_syntax.specs.Value.{Value, int, bool, IsOf, zero_of}
+use Rattle.typed_syntax.specs.Value.{Value, IsOf}
 use Rattle.typed_syntax.specs.Paths.{part, with_part}
-use Rattle.typed_syntax.specs.Words.{Content, number, truth, contents, Hold, IsZero}
+use Rattle.typed_syntax.specs.Words.{Content, contents}
 use Rattle.value_laws.proofs.Lists
-use Rattle.value_laws.proofs.Lists.{held_long}
-use Rattle.value_laws.proofs.Parts.{count_of, width_parts, part_is, with_part_is, Split, split_part}
-use Rattle.value_laws.proofs.Zeros.{zero_held, zero_is}
+use Rattle.value_laws.proofs.Parts.{count_of, width_parts, part_is, Split, split_part}
 use Rattle.typed_syntax.specs.Syntax.{Elements, no_elements, element, ascend_from, words_before, words_through}
 use Rattle.typed_syntax.specs.Form.{ElementsFit}
 use Rattle.typed_syntax.specs.Frames.{outgoing_of, temps_of}
-use Rattle.isa.specs.Bin.{bit_of}
 use Rattle.meaning.specs.Trace.{World, Trace}
 use Rattle.machine.specs.Machine.{put_words, words_at}
-use Rattle.program_code.specs.Code.{temp, slots_of, gap_code, gap_size}
-use Rattle.simulated_code.proofs.Places.{Standing, At, later, place_is, words_zeroed}
-use Rattle.simulated_code.proofs.Distances.{word_at, put_length, put_other, put_same, read_length, read_index}
-use Rattle.simulated_code.proofs.Frames.{Built, Frame, hold, numbers, Good, depth, StandsFor, StandIn, LieAt, nothing, contents_of, wide_of, stands_same}
-use Rattle.simulated_code.proofs.Changes.{less_or, lie_back, wide_joined, wide_one, contents_joined, held_more, temps_put, fewer, held_value, held_room}
-
--- ---- zeros
-
-pub held_stand_in : (cs : List Content) (xs : List ℕ) → Hold StandsFor cs xs → StandIn cs xs
-held_stand_in cs xs h = record { long = held_long StandsFor cs xs h; each = λ j l. at cs xs j h l }
-  where
-    at : (cs : List Content) (xs : List ℕ) (j : ℕ) → Hold StandsFor cs xs → j < length cs → StandsFor (get_or cs j nothing) (slice_index xs j)
-    at [] xs j h l = absurd (omega arith)
-    at (c ∷ cs) (x ∷ xs) zero h l = h.0
-    at (c ∷ cs) (x ∷ xs) (suc j) h l = at cs xs j h.1 (omega arith)
-    at (c ∷ cs) [] j h l = absurd h
-
-zero_word : (c : Content) → IsZero c → StandsFor c 0
-zero_word (number z) e = (sym e, omega arith)
-zero_word (truth b) e = sym (ap bit_of e)
-
-pub zero_stands : (t : TypeTree) → StandIn (contents (zero_of t)) (replicate (width t) 0)
-zero_stands t = held_stand_in (contents (zero_of t)) (replicate (width t) 0) (zero_held StandsFor zero_word t)
-
-all_zero : (n i : ℕ) → slice_index (replicate n 0) i ≡ 0
-all_zero zero i = refl
-all_zero (suc n) zero = refl
-all_zero (suc n) (suc i) = all_zero n i
-
--- each word of it is 0
-pub zero_behind : (t : TypeTree) (j : ℕ) → j < width t → StandsFor (get_or (contents (zero_of t)) j nothing) 0
-zero_behind t j l = subst (λ x. StandsFor (get_or (contents (zero_of t)) j nothing) x) (all_zero (width t) j) ((zero_stands t).each j (omega (arith, count_of t (zero_of t) (zero_is t))))
-
--- ---- contents that are no value of their own
-
-abbrev as_value : Content → Value
-as_value (number z) = int z
-as_value (truth b) = bool b
-
--- each as a value
-abbrev pub as_values : List Content → List Value
-as_values [] = []
-as_values (c ∷ cs) = as_value c ∷ as_values cs
-
-pub contents_as : (cs : List Content) → contents_of (as_values cs) ≡ cs
-contents_as [] = refl
-contents_as (number z ∷ cs) = ap (λ l. number z ∷ l) (contents_as cs)
-contents_as (truth b ∷ cs) = ap (λ l. truth b ∷ l) (contents_as cs)
-
-pub contents_one : (v : Value) → contents_of (v ∷ []) ≡ contents v
-contents_one v = append-nil (contents v)
-
--- after some values
-pub contents_with : (held : List Value) (cs : List Content) → contents_of (held ++ as_values cs) ≡ contents_of held ++ cs
-contents_with held cs = contents_joined held (as_values cs) ∙ ap (λ l. contents_of held ++ l) (contents_as cs)
-
-pub contents_with_one : (held : List Value) (v : Value) → contents_of (held ++ v ∷ []) ≡ contents_of held ++ contents v
-contents_with_one held v = contents_joined held (v ∷ []) ∙ ap (λ l. contents_of held ++ l) (contents_one v)
+use Rattle.program_code.specs.Code.{temp, slots_of, zeros as zeros_code, gap_code, gap_size}
+use Rattle.state_relation.specs.Leaves.{leaves, leaf}
+use Rattle.state_relation.specs.Views.{View}
+use Rattle.state_relation.specs.Relation.{Memory, puts, Kept, word, spent, Frame, hold, word_at, Stand, StandsFor, StandsKept, nothing, depth}
+use Rattle.state_relation.proofs.Lists.{less_or, get_is, append_cases, append_new}
+use Rattle.state_relation.proofs.Distances.{put_other, put_same, read_length, read_index}
+use Rattle.state_relation.proofs.Leaves.{leaves_length, part_leaf}
+use Rattle.state_relation.proofs.Words.{all_zero}
+use Rattle.state_relation.proofs.Changes.{stands_same, keeps_at, keeps_get, kept_word, good_kept, good_free, good_more}
+use Rattle.state_relation.proofs.Built.{Built}
+use Rattle.state_relation.proofs.Rules.{At, Stands, later, place_is, stepped, zeroed_by}
+use Rattle.state_relation.proofs.Values.{kept, kept_length, fewer}
+use Rattle.simulated_code.proofs.Standing.{Standing}
 
 -- ---- a value up to a part
 
@@ -140,6 +93,64 @@ both_true false b e = absurd (true≢false (sym e))
 pub in_order : (n i : ℕ) (e : _) (es : Elements) → ascend_from n (element i e es) ≡ true → (n ≤ i) × (ascend_from (suc i) es ≡ true)
 in_order n i e es h = let b = both_true (nat_le n i) (ascend_from (suc i) es) h in (leb-true n i b.0, b.1)
 
+-- ---- what temps keep of it
+
+pub kept_at : (t : TypeTree) (x : Value) (j : ℕ) → j < width t → get_or (kept t x) j spent ≡ word (leaf t j) (get_or (contents x) j nothing)
+kept_at t x j l = get_is (kept t x) j (word (leaf t j) (get_or (contents x) j nothing)) spent (keeps_at (leaves t) (contents x) j (omega (arith, leaves_length t)))
+
+-- lists with the same items are the same
+same_kept : (xs ys : List Kept) → length xs ≡ length ys → ((i : ℕ) → i < length ys → get_or xs i spent ≡ get_or ys i spent) → xs ≡ ys
+same_kept [] [] e h = refl
+same_kept [] (y ∷ ys) e h = absurd (omega (arith, e))
+same_kept (x ∷ xs) [] e h = absurd (omega (arith, e))
+same_kept (x ∷ xs) (y ∷ ys) e h =
+    let a : x ≡ y = h 0 (omega arith) in let z : length xs ≡ length ys = omega (arith, e) in
+    ap (λ i. i ∷ xs) a ∙ ap (λ is. y ∷ is) (same_kept xs ys z (λ i lt. h (suc i) (omega arith)))
+
+-- the type of a word of a part
+pub part_word : (t : TypeTree) (i j : ℕ) → i < part_count t → j < width (part_type t i) → leaf t (part_offset t i + j) ≡ leaf (part_type t i) j
+part_word t i j l lt = let none : part_offset t i + 0 + j ≡ part_offset t i + j = omega arith in ap (leaf t) (sym none) ∙ part_leaf t (part_type t i) (i ∷ []) j (l, refl) lt
+
+-- a part follows what stands before it
+pub kept_through : (t : TypeTree) (x y : Value) (i : ℕ) → i < part_count t → IsOf t x → IsOf (part_type t i) y → take (part_offset t i) (kept t x) ++ kept (part_type t i) y ≡ take (words_through t i) (kept t (with_part x i y))
+kept_through t x y i l ix iy = same_kept (before ++ kept u y) after long each
+  where
+    u : TypeTree
+    u = part_type t i
+
+    off : ℕ
+    off = part_offset t i
+
+    before : List Kept
+    before = take off (kept t x)
+
+    after : List Kept
+    after = take (words_through t i) (kept t (with_part x i y))
+
+    ends : words_through t i ≤ width t
+    ends = part_within t i l
+
+    front_long : length before ≡ off
+    front_long = let e = ends in length-take-le off (kept t x) (omega (arith, kept_length t x))
+
+    after_long : length after ≡ words_through t i
+    after_long = let e = ends in length-take-le (words_through t i) (kept t (with_part x i y)) (omega (arith, kept_length t (with_part x i y)))
+
+    long : length (before ++ kept u y) ≡ length after
+    long = omega (arith, length-append before (kept u y), front_long, kept_length u y, after_long)
+
+    each : (j : ℕ) → j < length after → get_or (before ++ kept u y) j spent ≡ get_or after j spent
+    each j lt = elim (less_or j off) [
+      | inl a ↦ (let e = ends in let n = after_long in
+          get_or_append_left before (kept u y) spent j (omega (arith, front_long)) ∙ get_or-take off (kept t x) j spent a ∙ kept_at t x j (omega arith)
+          ∙ ap (word (leaf t j)) (sym (before_part t x y i l ix iy j a)) ∙ sym (get_or-take (words_through t i) (kept t (with_part x i y)) j spent (omega arith) ∙ kept_at t (with_part x i y) j (omega arith)))
+      | inr a ↦ (let e = ends in let n = after_long in let q : ℕ = j - off in let ql : q < width u = omega arith in let qj : off + q ≡ j = omega arith in
+          get_or-append_right before (kept u y) off j spent front_long a ∙ kept_at u y q ql
+          ∙ ap (λ r. word r (get_or (contents y) q nothing)) (sym (part_word t i q l ql)) ∙ ap (λ r. word (leaf t (off + q)) r) (sym (inside_part t x y i l ix iy q ql))
+          ∙ ap (λ r. word (leaf t r) (get_or (contents (with_part x i y)) r nothing)) qj
+          ∙ sym (get_or-take (words_through t i) (kept t (with_part x i y)) j spent (omega arith) ∙ kept_at t (with_part x i y) j (omega arith)))
+    ]
+
 module _ (m : Built) where
   pub gap_fits : (scope : List ℕ) (t : TypeTree) (x : Value) (i : ℕ) (es : Elements) → IsOf t x → i < part_count t → ElementsFit m.program scope t es → ascend_from (suc i) es ≡ true → words_through t i ≤ words_before t es
   gap_fits scope t x i no_elements ix l fit h = (split_part t x i ix l).ends
@@ -149,103 +160,72 @@ module _ (m : Built) where
   before_fits scope t x no_elements ix fit = omega arith
   before_fits scope t x (element i e es) ix fit = let ends = (split_part t x i ix fit.0).ends in omega arith
 
-  -- values that have the same contents
-  pub held_same : (c : Frame) (calls : List Frame) (w : World) (words : List ℕ) (held other : List Value) → contents_of held ≡ contents_of other → Good m (hold c held ∷ calls) w words → Good m (hold c other ∷ calls) w words
-  held_same c calls w words held other e g = let s = g.stack.0 in record {
-    long = g.long;
-    many = g.many;
-    within = g.within;
-    kinds = g.kinds;
-    stack = (
-      record {
-        named = s.named;
-        room = let q = ap (λ l. length l) e in let r = s.room in omega arith;
-        begins = s.begins;
-        above = s.above;
-        among = s.among;
-        homes = s.homes;
-        sole = s.sole;
-        values = s.values;
-        types = s.types;
-        temps = subst (λ cs. LieAt cs (depth m (c ∷ calls)) (outgoing_of m.program c.func) words) e s.temps;
-        back = s.back;
-        link = s.link;
-      },
-      g.stack.1,
-    );
-  }
-
-  module _ (c : Frame) (calls : List Frame) (w : World) (held : List Value) (t : TypeTree) (x : Value) (ix : IsOf t x) where
+  module _ (c : Frame) (calls : List Frame) (v : View) (w : World) (held : List Kept) (t : TypeTree) (x : Value) where
     -- a value stands up to n words
-    abbrev pub UpTo : ℕ → List ℕ → Type 0
-    UpTo n words = Good m (hold c (held ++ as_values (take n (contents x))) ∷ calls) w words
+    abbrev pub UpTo : ℕ → Memory → Type 0
+    UpTo n s = Stands m v w (hold c (held ++ take n (kept t x)) ∷ calls) s
 
-    pub up_to_wide : (n : ℕ) → n ≤ width t → wide_of (held ++ as_values (take n (contents x))) ≡ wide_of held + n
-    up_to_wide n le = omega (arith, wide_joined held (as_values (take n (contents x))), ap (λ l. length l) (contents_as (take n (contents x))), length-take-le n (contents x) (omega (arith, count_of t x ix)))
+    pub up_to_wide : (n : ℕ) → n ≤ width t → length (held ++ take n (kept t x)) ≡ length held + n
+    up_to_wide n le = omega (arith, length-append held (take n (kept t x)), length-take-le n (kept t x) (omega (arith, kept_length t x)))
 
-    pub up_to_end : (words : List ℕ) → UpTo (width t) words → Good m (hold c (held ++ x ∷ []) ∷ calls) w words
-    up_to_end words g =
-        held_same c calls w words (held ++ as_values (take (width t) (contents x))) (held ++ x ∷ [])
-        (contents_with held (take (width t) (contents x)) ∙ ap (λ l. contents_of held ++ l) (take_all (width t) (contents x) (omega (arith, count_of t x ix))) ∙ sym (contents_with_one held x)) g
+    pub up_to_end : (s : Memory) → UpTo (width t) s → Stands m v w (hold c (held ++ kept t x) ∷ calls) s
+    up_to_end s g = subst (λ l. Stands m v w (hold c (held ++ l) ∷ calls) s) (take_all (width t) (kept t x) (omega (arith, kept_length t x))) g
 
     -- the whole stands, so its front does
-    pub up_to_front : (n : ℕ) (words : List ℕ) → Good m (hold c (held ++ x ∷ []) ∷ calls) w words → UpTo n words
-    up_to_front n words g =
-        fewer m c calls w words (held ++ as_values (take n (contents x))) (as_values (drop n (contents x)))
-        (held_same c calls w words (held ++ x ∷ []) ((held ++ as_values (take n (contents x))) ++ as_values (drop n (contents x)))
-        (contents_with_one held x ∙ ap (λ l. contents_of held ++ l) (sym (take-append-drop n (contents x)))
-        ∙ sym (contents_with (held ++ as_values (take n (contents x))) (drop n (contents x)) ∙ ap (λ l. l ++ drop n (contents x)) (contents_with held (take n (contents x))) ∙ append_assoc (contents_of held) (take n (contents x)) (drop n (contents x)))) g)
+    pub up_to_front : (n : ℕ) (s : Memory) → Stands m v w (hold c (held ++ kept t x) ∷ calls) s → UpTo n s
+    up_to_front n s g =
+        fewer m v w c calls s (held ++ take n (kept t x)) (drop n (kept t x))
+        (subst (λ l. Stands m v w (hold c l ∷ calls) s) (ap (λ l. held ++ l) (sym (take-append-drop n (kept t x))) ∙ sym (append_assoc held (take n (kept t x)) (drop n (kept t x)))) g)
 
     -- a part follows
-    pub up_to_part : (v : Value) (i : ℕ) (l : i < part_count t) (iv : IsOf (part_type t i) v) (words : List ℕ) → Good m (hold c ((held ++ as_values (take (part_offset t i) (contents x))) ++ v ∷ []) ∷ calls) w words
-        → Good m (hold c (held ++ as_values (take (words_through t i) (contents (with_part x i v)))) ∷ calls) w words
-    up_to_part v i l iv words g =
-        let before = take (part_offset t i) (contents x) in
-        held_same c calls w words ((held ++ as_values before) ++ v ∷ []) (held ++ as_values (take (words_through t i) (contents (with_part x i v))))
-        (contents_with_one (held ++ as_values before) v ∙ ap (λ l. l ++ contents v) (contents_with held before) ∙ append_assoc (contents_of held) before (contents v)
-        ∙ ap (λ l. contents_of held ++ l) (joined_part t x v i l ix iv) ∙ sym (contents_with held (take (words_through t i) (contents (with_part x i v))))) g
+    pub up_to_part : (y : Value) (i : ℕ) → i < part_count t → IsOf t x → IsOf (part_type t i) y → (s : Memory) → Stands m v w (hold c ((held ++ take (part_offset t i) (kept t x)) ++ kept (part_type t i) y) ∷ calls) s
+        → Stands m v w (hold c (held ++ take (words_through t i) (kept t (with_part x i y))) ∷ calls) s
+    up_to_part y i l ix iy s g =
+        subst (λ ks. Stands m v w (hold c ks ∷ calls) s) (append_assoc held (take (part_offset t i) (kept t x)) (kept (part_type t i) y) ∙ ap (λ ks. held ++ ks) (kept_through t x y i l ix iy)) g
 
     -- zeros after it
-    pub up_to_zeros : (n more : ℕ) (words : List ℕ) → n + more ≤ width t → wide_of held + width t ≤ temps_of m.program c.func → ((j : ℕ) → n ≤ j → j < n + more → StandsFor (get_or (contents x) j nothing) 0)
-        → UpTo n words → UpTo (n + more) (put_words words (temp (slots_of m.program c.func) (wide_of held + n)) (replicate more 0))
-    up_to_zeros n more words le room zeros g =
-        let cs = contents x in let c1 = hold c (held ++ as_values (take n cs)) in let vs = as_values (take more (drop n cs)) in
-        let long = count_of t x ix in
-        let count : length (take more (drop n cs)) ≡ more = length-take-le more (drop n cs) (omega (arith, long, length-drop n cs)) in
-        let wide : wide_of vs ≡ more = ap (λ l. length l) (contents_as (take more (drop n cs))) ∙ count in
-        held_same c calls w (put_words words (temp (slots_of m.program c.func) (wide_of held + n)) (replicate more 0)) ((held ++ as_values (take n cs)) ++ vs) (held ++ as_values (take (n + more) cs))
-        (contents_with (held ++ as_values (take n cs)) (take more (drop n cs)) ∙ ap (λ l. l ++ take more (drop n cs)) (contents_with held (take n cs))
-        ∙ append_assoc (contents_of held) (take n cs) (take more (drop n cs)) ∙ ap (λ l. contents_of held ++ l) (sym (take-add n more cs)) ∙ sym (contents_with held (take (n + more) cs)))
-        (temps_put m c1 calls w words (replicate more 0) (wide_of held + n) vs (up_to_wide n (omega arith)) (omega (arith, wide))
-        (subst (λ l. StandIn l (replicate more 0)) (sym (contents_as (take more (drop n cs)))) (record {
-          long = length-replicate more 0 ∙ sym count;
-          each = λ j l. stands_same (get_or cs (n + j) nothing) (get_or (take more (drop n cs)) j nothing) 0 (slice_index (replicate more 0) j)
-              (get_or-take more (drop n cs) j nothing (omega (arith, count)) ∙ get_or-drop n cs j nothing) (all_zero more j) (zeros (n + j) (omega arith) (omega (arith, count)));
-        })) g)
+    pub up_to_zeros : (h n more : ℕ) (s : Memory) → length held ≡ h → n + more ≤ width t → h + width t ≤ temps_of m.program c.func → ((j : ℕ) → n ≤ j → j < n + more → StandsFor v.homes s.hi w (leaf t j) (get_or (contents x) j nothing) 0)
+        → UpTo n s → UpTo (n + more) (puts s (temp (slots_of m.program c.func) (h + n)) (replicate more 0))
+    up_to_zeros h n more s hh le room zeros g =
+        subst (λ ks. Stands m v w (hold c ks ∷ calls) (puts s (temp (slots_of m.program c.func) (h + n)) (replicate more 0))) (append_assoc held (take n (kept t x)) (take more (drop n (kept t x))) ∙ ap (λ ks. held ++ ks) (sym (take-add n more (kept t x))))
+        (good_more m.program m.max v w (hold c (held ++ take n (kept t x))) calls s (h + n) (take more (drop n (kept t x))) (replicate more 0) (omega (arith, up_to_wide n (omega arith), hh)) (length-replicate more 0 ∙ sym count) (omega (arith, count)) each g)
+      where
+        count : length (take more (drop n (kept t x))) ≡ more
+        count = length-take-le more (drop n (kept t x)) (omega (arith, kept_length t x, length-drop n (kept t x)))
+
+        each : (i : ℕ) (k : Kept) → slice_get (take more (drop n (kept t x))) i ≡ Some k → StandsKept v.homes s.hi w k (slice_index (replicate more 0) i)
+        each i k e =
+            let lt : i < more = subst (λ j. i < j) count (slice_get_within (take more (drop n (kept t x))) i k e) in
+            let there : word (leaf t (n + i)) (get_or (contents x) (n + i) nothing) ≡ k = sym (get_or-take more (drop n (kept t x)) i spent lt ∙ get_or-drop n (kept t x) i spent ∙ kept_at t x (n + i) (omega arith)) ∙ get_is (take more (drop n (kept t x))) i k spent e in
+            subst (λ a. StandsKept v.homes s.hi w a (slice_index (replicate more 0) i)) there
+            (subst (λ u. StandsFor v.homes s.hi w (leaf t (n + i)) (get_or (contents x) (n + i) nothing) u) (sym (all_zero more i)) (zeros (n + i) (omega arith) (omega arith)))
 
   -- the words between a part and the next element are zeroed again
-  pub gap_follows : (c : Frame) (calls : List Frame) (w : World) (held : List Value) (t : TypeTree) (x : Value) (ix : IsOf t x) (h from to pc lo b : ℕ) (words : List ℕ) (rest : Trace) → wide_of held ≡ h → from ≤ to → to ≤ width t → h + width t ≤ temps_of m.program c.func
-      → ((j : ℕ) → from ≤ j → j < to → StandsFor (get_or (contents x) j nothing) 0) → Standing m.code c.fn pc (gap_code (to - from) (temp (slots_of m.program c.func) (h + from))) → UpTo c calls w held t x ix from words
-      → ((words1 : List ℕ) → UpTo c calls w held t x ix to words1 → At m (numbers (c ∷ calls)) lo 0 b rest (pc + gap_size (to - from)) words1 w) → At m (numbers (c ∷ calls)) (suc lo) 0 b rest pc words w
-  gap_follows c calls w held t x ix h from to pc lo b words rest hh le inside room zeros has g post = by (to - from) refl has post
+  pub gap_follows : (c : Frame) (calls : List Frame) (v : View) (w : World) (held : List Kept) (t : TypeTree) (x : Value) (h from to pc lo b : ℕ) (rest : Trace) → length held ≡ h → from ≤ to → to ≤ width t → h + width t ≤ temps_of m.program c.func
+      → ((j : ℕ) (hi : ℕ) → from ≤ j → j < to → StandsFor v.homes hi w (leaf t j) (get_or (contents x) j nothing) 0) → Standing m.code c.fn pc (gap_code (to - from) (temp (slots_of m.program c.func) (h + from)))
+      → At m lo 0 b v rest (UpTo c calls v w held t x to) (pc + gap_size (to - from)) → At m (suc lo) 0 b v rest (UpTo c calls v w held t x from) pc
+  gap_follows c calls v w held t x h from to pc lo b rest hh le inside room zeros has post = by (to - from) refl has post
     where
-      by : (gap : ℕ) → gap ≡ to - from → Standing m.code c.fn pc (gap_code gap (temp (slots_of m.program c.func) (h + from)))
-          → ((words1 : List ℕ) → UpTo c calls w held t x ix to words1 → At m (numbers (c ∷ calls)) lo 0 b rest (pc + gap_size gap) words1 w) → At m (numbers (c ∷ calls)) (suc lo) 0 b rest pc words w
+      by : (gap : ℕ) → gap ≡ to - from → Standing m.code c.fn pc (gap_code gap (temp (slots_of m.program c.func) (h + from))) → At m lo 0 b v rest (UpTo c calls v w held t x to) (pc + gap_size gap) → At m (suc lo) 0 b v rest (UpTo c calls v w held t x from) pc
       by zero e has post =
-          let same : from ≡ to = omega arith in let q : pc + 0 ≡ pc = omega arith in
-          later m {lo = lo} {hi = 0} {b = b} (omega arith) (omega arith) (omega arith) (place_is m q (post words (subst (λ n. UpTo c calls w held t x ix n words) same g)))
+          let same : to ≡ from = omega arith in let q : pc + 0 ≡ pc = omega arith in
+          later m {lo = lo} {hi = 0} {b = b} (omega arith) (omega arith) (omega arith) (place_is m q (subst (λ n. At m lo 0 b v rest (UpTo c calls v w held t x n) (pc + 0)) same post))
       by (suc k) e has post =
-          let more : from + suc k ≡ to = omega arith in let s = slots_of m.program c.func in let there = temp s (h + from) in
-          let same : temp s (wide_of held + from) ≡ there = ap (λ n. temp s (n + from)) hh in let long = g.long in
-          let g1 = up_to_zeros c calls w held t x ix from (suc k) words (omega arith) (omega arith) (λ j f l. zeros j f (omega arith)) g in
+          let more : to ≡ from + suc k = omega arith in let there = temp (slots_of m.program c.func) (h + from) in
           later m {lo = suc lo} {hi = 1} {b = b} (omega arith) (omega arith) (omega arith)
-          (words_zeroed m {lo = lo} {hi = 0} (suc k) there has.0.0 (omega arith) (omega arith)
-          (post (put_words words there (replicate (suc k) 0)) (subst (λ n. UpTo c calls w held t x ix n (put_words words there (replicate (suc k) 0))) more (subst (λ a. UpTo c calls w held t x ix (from + suc k) (put_words words a (replicate (suc k) 0))) same g1))))
+          (stepped m {lo = lo} {hi = 0} (zeros_code (suc k) there) (λ s. puts s there (replicate (suc k) 0)) has.0.0
+          (λ s g. (
+            zeroed_by m (suc k) there pc s (omega arith) (let u = g.sized.used in omega arith),
+            refl,
+            up_to_zeros c calls v w held t x h from (suc k) s hh (omega arith) room (λ j f l. zeros j s.hi f (omega arith)) g,
+          ))
+          (subst (λ n. At m lo 0 b v rest (UpTo c calls v w held t x n) (pc + 1)) more post))
 
   -- a part of a value in temps gets another value
-  module _ (c : Frame) (calls : List Frame) (w : World) (words xs : List ℕ) (held : List Value) (h : ℕ) (t : TypeTree) (x v : Value) (i : ℕ) (hh : wide_of held ≡ h) (l : i < part_count t) (ix : IsOf t x) (iv : IsOf (part_type t i) v) (stand : StandIn (contents v) xs) (g : Good m (hold c (held ++ x ∷ []) ∷ calls) w words) where
+  module _ (c : Frame) (calls : List Frame) (v : View) (w : World) (s : Memory) (xs : List ℕ) (held : List Kept) (h : ℕ) (t : TypeTree) (x y : Value) (i : ℕ) (hh : length held ≡ h) (l : i < part_count t) (ix : IsOf t x) (iy : IsOf (part_type t i) y)
+      (stand : Stand v.homes s.hi w (leaves (part_type t i)) (contents y) xs) (g : Stands m v w (hold c (held ++ kept t x) ∷ calls) s) where
     abbrev new : Value
-    new = with_part x i v
+    new = with_part x i y
 
     abbrev from : ℕ
     from = part_offset t i
@@ -253,82 +233,71 @@ module _ (m : Built) where
     abbrev wide : ℕ
     wide = width (part_type t i)
 
-    abbrev deep : ℕ
-    deep = depth m (c ∷ calls)
-
-    abbrev base : ℕ
-    base = outgoing_of m.program c.func + wide_of held
-
     abbrev slot : ℕ
     slot = temp (slots_of m.program c.func) (h + from)
 
-    abbrev words1 : List ℕ
-    words1 = put_words words slot xs
-
-    long_new : length (contents new) ≡ width t
-    long_new = count_of t new (with_part_is t x v i ix l iv)
-
-    long_old : length (contents x) ≡ width t
-    long_old = count_of t x ix
+    abbrev deep : ℕ
+    deep = depth m.program (c ∷ calls)
 
     many : length xs ≡ wide
-    many = stand.long ∙ count_of (part_type t i) v iv
+    many = stand.long ∙ leaves_length (part_type t i)
 
-    room : wide_of held + width t ≤ temps_of m.program c.func
-    room = let r = g.stack.0.room in omega (arith, wide_joined held (x ∷ []), wide_one x, long_old)
+    room : h + width t ≤ temps_of m.program c.func
+    room = let r = g.homed.owned.0.room in omega (arith, length-append held (kept t x), kept_length t x)
 
     ends : from + wide ≤ width t
-    ends = part_ends t x v i l ix iv
+    ends = part_within t i l
 
-    within : slot + length xs ≤ length words
-    within = let long = g.long in let r = room in let e = ends in omega (arith, many)
+    below : Stands m v w (hold c held ∷ calls) (puts s slot xs)
+    below = let r = room in let e = ends in good_free m.program m.max v w (hold c held) calls s slot xs (inl (omega arith, omega (arith, many))) (fewer m v w c calls s held (kept t x) g)
 
-    old : LieAt (contents x) deep base words
-    old =
-        subst (λ cs. LieAt cs deep base words) (contents_one x)
-        (lie_back (contents_of held) (contents_of (x ∷ [])) deep (outgoing_of m.program c.func) (wide_of held) words refl
-        (subst (λ cs. LieAt cs deep (outgoing_of m.program c.func) words) (contents_joined held (x ∷ [])) g.stack.0.temps))
+    -- a word that stands where the value is
+    now : (j : ℕ) → j < width t → StandsFor v.homes s.hi w (leaf t j) (get_or (contents new) j nothing) (word_at (put_words s.words slot xs) (deep - (outgoing_of m.program c.func + (h + j))))
+    now j lt = elim (less_or j from) [ inl p ↦ old (inl p) (sym (before_part t x y i l ix iy j p)) | inr p ↦ elim (less_or j (from + wide)) [ inr q ↦ old (inr q) (sym (behind_part t x y i l ix iy j q)) | inl q ↦ inner p q ] ]
+      where
+        old : (j < from) ⊎ (from + wide ≤ j) → get_or (contents x) j nothing ≡ get_or (contents new) j nothing → StandsFor v.homes s.hi w (leaf t j) (get_or (contents new) j nothing) (word_at (put_words s.words slot xs) (deep - (outgoing_of m.program c.func + (h + j))))
+        old out e =
+            let u = g.sized.used in let r = room in let n = ends in
+            let there : slice_get (held ++ kept t x) (h + j) ≡ Some (word (leaf t j) (get_or (contents x) j nothing)) = ap (λ k. slice_get (held ++ kept t x) (k + j)) (sym hh) ∙ append_new held (kept t x) j ∙ keeps_at (leaves t) (contents x) j (omega (arith, leaves_length t)) in
+            stands_same v.homes s.hi w (leaf t j) (leaf t j) (get_or (contents x) j nothing) (get_or (contents new) j nothing) (word_at s.words (deep - (outgoing_of m.program c.func + (h + j)))) (word_at (put_words s.words slot xs) (deep - (outgoing_of m.program c.func + (h + j)))) refl e
+            (sym (put_other s.words slot xs (deep - (outgoing_of m.program c.func + (h + j))) (omega (arith, many)) (elim out [ inl p ↦ inl (omega arith) | inr p ↦ inr (omega (arith, many)) ])))
+            (g.framed.kept (deep - (outgoing_of m.program c.func + (h + j))) (word (leaf t j) (get_or (contents x) j nothing)) (inl (h + j, omega arith, refl, there)))
 
-    outside : (j : ℕ) → j < width t → (j < from) ⊎ (from + wide ≤ j) → word_at words1 (deep - (base + j)) ≡ word_at words (deep - (base + j))
-    outside j lt apart = let long = g.long in let r = room in
-        put_other words slot xs (deep - (base + j)) within (elim apart [ inl p ↦ inl (omega (arith, many)) | inr p ↦ inr (omega (arith, many)) ])
+        inner : from ≤ j → j < from + wide → StandsFor v.homes s.hi w (leaf t j) (get_or (contents new) j nothing) (word_at (put_words s.words slot xs) (deep - (outgoing_of m.program c.func + (h + j))))
+        inner p q =
+            let u = g.sized.used in let r = room in let n = ends in let k : ℕ = j - from in let kl : k < wide = omega arith in let kj : from + k ≡ j = omega arith in
+            stands_same v.homes s.hi w (leaf (part_type t i) k) (leaf t j) (get_or (contents y) k nothing) (get_or (contents new) j nothing) (slice_index xs k) (word_at (put_words s.words slot xs) (deep - (outgoing_of m.program c.func + (h + j))))
+            (sym (part_word t i k l kl) ∙ ap (leaf t) kj) (sym (inside_part t x y i l ix iy k kl) ∙ ap (λ z. get_or (contents new) z nothing) kj)
+            (sym (put_same s.words slot xs k (deep - (outgoing_of m.program c.func + (h + j))) (omega (arith, many)) (omega (arith, many)) (omega arith))) (stand.each k (omega (arith, leaves_length (part_type t i))))
 
-    word : (j : ℕ) → j < width t → (j < from) ⊎ (from ≤ j) → (j < from + wide) ⊎ (from + wide ≤ j) → StandsFor (get_or (contents new) j nothing) (word_at words1 (deep - (base + j)))
-    word j lt (inl p) q =
-        stands_same (get_or (contents x) j nothing) (get_or (contents new) j nothing) (word_at words (deep - (base + j))) (word_at words1 (deep - (base + j)))
-        (before_part t x v i l ix iv j p) (outside j lt (inl p)) (old j (omega (arith, long_old)))
-    word j lt (inr p) (inr q) =
-        stands_same (get_or (contents x) j nothing) (get_or (contents new) j nothing) (word_at words (deep - (base + j))) (word_at words1 (deep - (base + j)))
-        (behind_part t x v i l ix iv j q) (outside j lt (inr q)) (old j (omega (arith, long_old)))
-    word j lt (inr p) (inl q) =
-        let k : from + (j - from) ≡ j = omega arith in let long = g.long in let r = room in let inside = within in
-        stands_same (get_or (contents v) (j - from) nothing) (get_or (contents new) j nothing) (slice_index xs (j - from)) (word_at words1 (deep - (base + j)))
-        (ap (λ z. get_or (contents new) z nothing) (sym k) ∙ inside_part t x v i l ix iv (j - from) (omega arith))
-        (put_same words slot xs (j - from) (deep - (base + j)) within (omega (arith, many)) (omega (arith, many)))
-        (stand.each (j - from) (omega (arith, count_of (part_type t i) v iv)))
-
-    pub part_put : Good m (hold c (held ++ new ∷ []) ∷ calls) w words1
-    part_put =
-        let long = g.long in let r = room in let e = ends in
-        held_more m (hold c held) calls w words words1 (new ∷ []) (put_length words slot xs within) (omega (arith, wide_one new, long_new))
-        (λ d apart. let deepest = apart.0 in put_other words slot xs d within (elim apart.1 [ inl p ↦ inl (omega (arith, many)) | inr p ↦ inr (omega (arith, many, wide_one new, long_new)) ]))
-        (subst (λ cs. LieAt cs deep base words1) (sym (contents_one new)) (λ j lt. word j (omega (arith, long_new)) (less_or j from) (less_or j (from + wide))))
-        (fewer m c calls w words held (x ∷ []) g)
+    pub part_put : Stands m v w (hold c (held ++ kept t new) ∷ calls) (puts s slot xs)
+    part_put = good_kept m.program m.max v w (hold c held) calls (puts s slot xs) (held ++ kept t new) (let r = room in omega (arith, length-append held (kept t new), kept_length t new)) each below
+      where
+        each : (j : ℕ) (k : Kept) → j < temps_of m.program c.func → slice_get (held ++ kept t new) j ≡ Some k → StandsKept v.homes s.hi w k (word_at (put_words s.words slot xs) (deep - (outgoing_of m.program c.func + j)))
+        each j k lt e = elim (append_cases held (kept t new) k j e) [
+          | inl o ↦ below.framed.kept (deep - (outgoing_of m.program c.func + j)) k (inl (j, lt, refl, o))
+          | inr (n, q, f) ↦ (
+              let a = keeps_get (leaves t) (contents new) n k f in let nl : n < width t = subst (λ z. n < z) (leaves_length t) a.0 in let there : h + n ≡ j = omega (arith, q, hh) in
+              subst (λ z. StandsKept v.homes s.hi w k (word_at (put_words s.words slot xs) (deep - (outgoing_of m.program c.func + z)))) there
+              (subst (λ z. StandsKept v.homes s.hi w z (word_at (put_words s.words slot xs) (deep - (outgoing_of m.program c.func + (h + n))))) a.1 (now n nl))
+              )
+        ]
 
   -- a part of a value in temps as words that are read
-  module _ (c : Frame) (calls : List Frame) (w : World) (words : List ℕ) (held : List Value) (h : ℕ) (t : TypeTree) (x : Value) (i : ℕ) (hh : wide_of held ≡ h) (l : i < part_count t) (ix : IsOf t x) (g : Good m (hold c (held ++ x ∷ []) ∷ calls) w words) where
-    pub part_room : temp (slots_of m.program c.func) (h + part_offset t i) + width (part_type t i) ≤ length words
-    part_room = let r = held_room m c calls w words held [] x h (width t) hh (count_of t x ix) g in let e = (split_part t x i ix l).ends in omega arith
+  module _ (c : Frame) (calls : List Frame) (v : View) (w : World) (s : Memory) (held : List Kept) (h : ℕ) (t : TypeTree) (x : Value) (i : ℕ) (hh : length held ≡ h) (l : i < part_count t) (ix : IsOf t x) (g : Stands m v w (hold c (held ++ kept t x) ∷ calls) s) where
+    pub part_room : temp (slots_of m.program c.func) (h + part_offset t i) + width (part_type t i) ≤ length s.words
+    part_room = let r = g.homed.owned.0.room in let u = g.sized.used in let e = part_within t i l in omega (arith, length-append held (kept t x), kept_length t x)
 
-    pub part_stand : StandIn (contents (part x i)) (words_at words (temp (slots_of m.program c.func) (h + part_offset t i)) (width (part_type t i)))
+    pub part_stand : Stand v.homes s.hi w (leaves (part_type t i)) (contents (part x i)) (words_at s.words (temp (slots_of m.program c.func) (h + part_offset t i)) (width (part_type t i)))
     part_stand =
-        let n = width (part_type t i) in let from = temp (slots_of m.program c.func) (h + part_offset t i) in
-        let count = count_of (part_type t i) (part x i) (part_is t x i ix l) in let e = (split_part t x i ix l).ends in
+        let n = width (part_type t i) in let from = temp (slots_of m.program c.func) (h + part_offset t i) in let e = part_within t i l in
         record {
-          long = read_length words from n part_room ∙ sym count;
-          each = λ j lt.
-              let q : from + j ≡ temp (slots_of m.program c.func) h + (part_offset t i + j) = omega arith in
-              stands_same (get_or (contents x) (part_offset t i + j) nothing) (get_or (contents (part x i)) j nothing) (slice_index words (temp (slots_of m.program c.func) h + (part_offset t i + j))) (slice_index (words_at words from n) j)
-              (part_words t x i j l ix (omega (arith, count))) (read_index words from n j (omega (arith, count)) ∙ ap (slice_index words) q)
-              (held_value m c calls w words held [] x h (part_offset t i + j) hh (omega (arith, count, count_of t x ix)) g);
+          long = read_length s.words from n part_room ∙ sym (leaves_length (part_type t i));
+          each = λ j lt1.
+              let lt : j < n = subst (λ z. j < z) (leaves_length (part_type t i)) lt1 in let at = part_offset t i + j in
+              let there : slice_get (held ++ kept t x) (h + at) ≡ Some (word (leaf t at) (get_or (contents x) at nothing)) = ap (λ k. slice_get (held ++ kept t x) (k + at)) (sym hh) ∙ append_new held (kept t x) at ∙ keeps_at (leaves t) (contents x) at (omega (arith, leaves_length t)) in
+              let q : temp (slots_of m.program c.func) (h + at) ≡ from + j = omega arith in
+              stands_same v.homes s.hi w (leaf t at) (leaf (part_type t i) j) (get_or (contents x) at nothing) (get_or (contents (part x i)) j nothing) (slice_index s.words (temp (slots_of m.program c.func) (h + at))) (slice_index (words_at s.words from n) j)
+              (part_word t i j l lt) (sym (part_words t x i j l ix lt)) (ap (slice_index s.words) q ∙ sym (read_index s.words from n j lt))
+              (kept_word m.program m.max v w (hold c (held ++ kept t x)) calls s (h + at) (word (leaf t at) (get_or (contents x) at nothing)) there g);
         }

@@ -9,7 +9,7 @@ use Rattle.typed_syntax.specs.Value.{int}
 use Rattle.meaning.specs.Meaning.{count_of}
 use Rattle.isa.specs.Bin.{bit_of, bin_of, of_numbers}
 use Rattle.isa.specs.declared.instr.BinOp.TheVariants.{Add, Less}
-use Rattle.simulated_code.proofs.Frames.{Stands}
+use Rattle.state_relation.proofs.Words.{Spells}
 
 pub bit_small : (r : Bool) → bit_of r < 2 ^ 64
 bit_small true = omega arith
@@ -49,7 +49,7 @@ small y n e = by (nat_lt y (2 ^ 63)) refl
     by false l = absurd (let none : pos n ≡ negsuc (2 ^ 64 - suc y) = sym e ∙ ap (λ t. sel t (pos y) (negsuc (2 ^ 64 - suc y))) l in cc)
 
 -- an index below the number has a next one
-pub next_index : (z : ℤ) (i left x y : ℕ) → Remains z i (suc left) → cast_signed w64 x ≡ pos i → cast_signed w64 y ≡ z → (word : ℕ) × ((bin_of Add x 1 ≡ Ok word) × Stands (int (pos (suc i))) word)
+pub next_index : (z : ℤ) (i left x y : ℕ) → Remains z i (suc left) → cast_signed w64 x ≡ pos i → cast_signed w64 y ≡ z → (word : ℕ) × ((bin_of Add x 1 ≡ Ok word) × Spells (int (pos (suc i))) word)
 next_index (negsuc n) i left x y r ex ey = absurd (omega arith)
 next_index (pos n) i left x y r ex ey =
     let top = small y n ey in
@@ -58,6 +58,6 @@ next_index (pos n) i left x y r ex ey =
       _,
       (
         ap (λ u. of_numbers Add u (pos 1)) ex,
-        subst (λ u. Stands (int (pos (suc i))) (cast_unsigned w64 u)) (sym sum) (to_z_pos w64 (suc i) (omega arith), omega arith),
+        subst (λ u. Spells (int (pos (suc i))) (cast_unsigned w64 u)) (sym sum) (to_z_pos w64 (suc i) (omega arith), omega arith),
       ),
     )

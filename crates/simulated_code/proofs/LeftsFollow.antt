@@ -1,6 +1,6 @@
 -- The machine follows the writing of left sides, whose operands are held, and new variables.
-use Rattle.std.proofs.Common.{◌≡◌, ◌⊎◌, inl, inr, ℕ, suc, ◌+◌, ◌<◌, ◌≤◌, List, [], ◌∷◌, ◌++◌, length, refl, sym, ap, ◌∙◌, subst, arith, append_assoc, append-nil}
-use Rattle.std.specs.Prelude.{replicate}
+use Rattle.std.proofs.Common.{◌≡◌, ◌⊎◌, inl, inr, ℕ, suc, ◌+◌, ◌-◌, ◌<◌, ◌≤◌, List, [], ◌∷◌, ◌++◌, length, refl, sym, ap, ◌∙◌, subst, arith, append_assoc, append-nil}
+use Rattle.std.specs.Prelude.{slice_get, replicate}
 use Rattle.typed_syntax.specs.Value.{Value, IsOf}
 use Rattle.typed_syntax.specs.Syntax.{Pl, Steps, here as itself, inner, at_index, Left, Program, blank, new, to, local, global, site_type, each_width}
 use Rattle.typed_syntax.specs.Form.{AreOf, InScope, new_sites, AllInScope, PlFits, LeftsFit, SitesNext, NamedFit, scope_behind, scope_with}
@@ -8,19 +8,24 @@ use Rattle.typed_syntax.specs.Frames.{far, lefts_far, widest, temps_of}
 use Rattle.meaning.specs.Trace.{World}
 use Rattle.meaning.specs.Store.{value_of, written, born}
 use Rattle.meaning.specs.Meaning
-use Rattle.meaning.specs.Meaning.{Env, Go, Ways, Calls, Setting, Landing, nowhere, birth, on, with_home}
-use Rattle.machine.specs.Machine.{put_words, words_at}
-use Rattle.program_code.specs.Code.{temp, site_slot, slots_of, steps_above, place_above, address_code, address_size, land_code, lefts_code, lefts_size, zeros_code, renew_code, renew_size}
+use Rattle.meaning.specs.Meaning.{Env, Go, Ways, Setting, Landing, nowhere, birth, on, with_home}
+use Rattle.machine.specs.Machine.{words_at}
+use Rattle.program_code.specs.Code.{temp, site_slot, slots_of, steps_above, place_above, address_code, address_size, land_code, lefts_code, lefts_size, zeros_code, renew_code, renew_size, moves, zeros as zeros_at}
 use Rattle.program_code.proofs.Sizes.{length_address, length_write}
-use Rattle.simulated_code.proofs.Frames.{Built, Frame, hold, grown, during, numbers, Good, narrowed, StandIn, wide_of}
-use Rattle.simulated_code.proofs.Changes.{home_other, held_room, held_stand, site_room, site_stand, one_more, fewer, born_site, value_put}
-use Rattle.simulated_code.proofs.Places.{Standing, front, back, Panics, At, later, place_is, turned, seen, bore, read_of, write_of, words_moved, words_zeroed}
-use Rattle.simulated_code.proofs.Globals.{born_kept}
-use Rattle.simulated_code.proofs.Reached.{variable_of, steps_of, Operands, aimed, Located, located, held_by, settled_follow, address_at, landed}
-use Rattle.program_code.proofs.Sites.{site_within}
 use Rattle.typed_syntax.specs.Types.{TypeTree, ints, width}
 use Rattle.typed_syntax.specs.Words.{contents}
-use Rattle.value_laws.proofs.Parts.{count_of}
+use Rattle.state_relation.specs.Leaves.{leaves}
+use Rattle.state_relation.specs.Views.{View, after_stack}
+use Rattle.state_relation.specs.Relation.{Memory, puts, Kept, Frame, hold, grown, during, depth, Stand}
+use Rattle.state_relation.proofs.Words.{zero_stands}
+use Rattle.state_relation.proofs.Changes.{home_other, narrowed}
+use Rattle.state_relation.proofs.Built.{Built}
+use Rattle.state_relation.proofs.Rules.{At, Stands, knowing, later, place_is, given, turned, seen, read_of, written_to, moved_by, zeroed_by}
+use Rattle.state_relation.proofs.Values.{kept, all_kept, all_kept_first, all_kept_joined, one_more, more_kept, value_put, fewer, held_stand, held_room}
+use Rattle.simulated_code.proofs.Standing.{Standing, front, back, Panics}
+use Rattle.simulated_code.proofs.Reached.{variable_of, steps_of, Operands, aimed, index_types, operands_are, Located, located, place_held, settled_follow, landed}
+use Rattle.simulated_code.proofs.Temps.{words_moved, held_there, last_stand, last_room}
+use Rattle.simulated_code.proofs.Births.{births_at, site_stand, site_typed, site_room, cell_kind, zero_value, zero_typed}
 
 -- values for the indices of each left side that is a place
 abbrev pub Gives : List Left → List (List Value) → Type 0
@@ -35,6 +40,13 @@ Gives (to q ∷ ls) (us ∷ uss) = Operands (steps_of q) us × Gives ls uss
 abbrev pub together : List (List Value) → List Value
 together [] = []
 together (us ∷ uss) = us ++ together uss
+
+-- their types
+abbrev pub left_types : List Left → List TypeTree
+left_types [] = []
+left_types (blank ∷ ls) = left_types ls
+left_types (new site ∷ ls) = left_types ls
+left_types (to q ∷ ls) = index_types (steps_of q) ++ left_types ls
 
 -- where left sides lead
 abbrev pub landings : Env → List Left → List (List Value) → List Landing
@@ -60,128 +72,142 @@ named_next p n limit [] fit le = tt
 named_next p n limit (site ∷ sites) fit le = (fit.0, omega arith, named_next p (suc n) limit sites fit.1 (omega arith))
 
 -- operands lie below the temp above them
-steps_operands : (steps : Steps) (us : List Value) (h : ℕ) (held : List Value) → wide_of held ≡ h → Operands steps us → wide_of (held ++ us) ≡ steps_above steps h
-steps_operands itself [] h held hh given = ap wide_of (append-nil held) ∙ hh
-steps_operands itself (u ∷ us) h held hh given = absurd given
-steps_operands (inner i steps) us h held hh given = steps_operands steps us h held hh given
-steps_operands (at_index at e n steps) [] h held hh given = absurd given
-steps_operands (at_index at e n steps) (u ∷ us) h held hh given = ap wide_of (sym (append_assoc held (u ∷ []) us)) ∙ steps_operands steps us (h + 1) (held ++ u ∷ []) (one_more held u h 1 hh (count_of ints u given.0)) given.1
+steps_operands : (steps : Steps) (us : List Value) (h : ℕ) (held : List Kept) → length held ≡ h → Operands steps us → length (held ++ all_kept (index_types steps) us) ≡ steps_above steps h
+steps_operands itself [] h held hh ops = ap (λ l. length l) (append-nil held) ∙ hh
+steps_operands itself (u ∷ us) h held hh ops = absurd ops
+steps_operands (inner i steps) us h held hh ops = steps_operands steps us h held hh ops
+steps_operands (at_index at e n steps) [] h held hh ops = absurd ops
+steps_operands (at_index at e n steps) (u ∷ us) h held hh ops = ap (λ l. length l) (more_kept held ints (index_types steps) u us ops.0) ∙ steps_operands steps us (h + 1) (held ++ kept ints u) (one_more held ints u h 1 hh refl) ops.1
 
-operands_above : (q : Pl) (us : List Value) (h : ℕ) (held : List Value) → wide_of held ≡ h → Operands (steps_of q) us → wide_of (held ++ us) ≡ place_above q h
-operands_above (local site steps) us h held hh given = steps_operands steps us h held hh given
-operands_above (global g steps) us h held hh given = steps_operands steps us h held hh given
+operands_above : (q : Pl) (us : List Value) (h : ℕ) (held : List Kept) → length held ≡ h → Operands (steps_of q) us → length (held ++ all_kept (index_types (steps_of q)) us) ≡ place_above q h
+operands_above (local site steps) us h held hh ops = steps_operands steps us h held hh ops
+operands_above (global g steps) us h held hh ops = steps_operands steps us h held hh ops
 
-module _ (m : Built) (around : Setting) where
+-- those of a place come before those of the left sides after it
+pub first_operands : (q : Pl) (us : List Value) (ls : List Left) (uss : List (List Value)) → Operands (steps_of q) us → all_kept (left_types (to q ∷ ls)) (together (us ∷ uss)) ≡ all_kept (index_types (steps_of q)) us ++ all_kept (left_types ls) (together uss)
+first_operands q us ls uss ops = all_kept_joined (index_types (steps_of q)) (left_types ls) us (together uss) (operands_are (steps_of q) us ops)
+
+module _ (m : Built) (around : Setting) (sites_are : around.sites ≡ m.program.sites) where
   -- what holds of the sites in scope before the left sides: each comes before the new ones or after them all
-  abbrev pub Kept : List ℕ → (scope : List ℕ) → (first env : Env) → (n top : ℕ) → Type 0
-  Kept before scope first env n top = (v : ℕ) → InScope v before → InScope v scope × (env v ≡ first v) × ((v < n) ⊎ (top ≤ v))
+  abbrev pub Keeping : List ℕ → (scope : List ℕ) → (first env : Env) → (n top : ℕ) → Type 0
+  Keeping before scope first env n top = (v : ℕ) → InScope v before → InScope v scope × (env v ≡ first v) × ((v < n) ⊎ (top ≤ v))
 
   -- a place keeps its variable
-  kept_place : (before scope : List ℕ) (first env : Env) (n top : ℕ) (t : TypeTree) (p : Pl) → Kept before scope first env n top → PlFits m.program before t p → Located m scope t p × (variable_of env p ≡ variable_of first p)
-  kept_place before scope first env n top t (local site steps) kept fit = let k = kept site fit.0 in let l = located m before t (local site steps) fit in ((k.0, l.1, l.2), k.1)
-  kept_place before scope first env n top t (global g steps) kept fit = (located m before t (global g steps) fit, refl)
+  kept_place : (before scope : List ℕ) (first env : Env) (n top : ℕ) (t : TypeTree) (p : Pl) → Keeping before scope first env n top → PlFits m.program before t p → Located m scope t p × (variable_of env p ≡ variable_of first p)
+  kept_place before scope first env n top t (local site steps) keeping fit = let k = keeping site fit.0 in let l = located m before t (local site steps) fit in ((k.0, l.1, l.2), k.1)
+  kept_place before scope first env n top t (global g steps) keeping fit = (located m before t (global g steps) fit, refl)
+
+  -- the first of the values that are left
+  first_of : (t : TypeTree) (ts : List TypeTree) (x : Value) (vs : List Value) (gone tail all : List Kept) → IsOf t x → all ≡ gone ++ (all_kept (t ∷ ts) (x ∷ vs) ++ tail) → all ≡ gone ++ (kept t x ++ (all_kept ts vs ++ tail))
+  first_of t ts x vs gone tail all is e = e ∙ ap (λ l. gone ++ (l ++ tail)) (all_kept_first t ts x vs is) ∙ ap (λ l. gone ++ l) (append_assoc (kept t x) (all_kept ts vs) tail)
+
+  next_held : (t : TypeTree) (ts : List TypeTree) (x : Value) (vs : List Value) (gone tail all : List Kept) → IsOf t x → all ≡ gone ++ (all_kept (t ∷ ts) (x ∷ vs) ++ tail) → all ≡ (gone ++ kept t x) ++ (all_kept ts vs ++ tail)
+  next_held t ts x vs gone tail all is e = first_of t ts x vs gone tail all is e ∙ sym (append_assoc gone (kept t x) (all_kept ts vs ++ tail))
+
+  all_first : (t : TypeTree) (ts : List TypeTree) (x : Value) (vs : List Value) (gone tail all : List Kept) (c : Frame) (calls : List Frame) (v : View) (w : World) (u : Memory) → c.held ≡ all → IsOf t x → all ≡ gone ++ (all_kept (t ∷ ts) (x ∷ vs) ++ tail) → Stands m v w (c ∷ calls) u
+      → Stands m v w (hold c (gone ++ (kept t x ++ (all_kept ts vs ++ tail))) ∷ calls) u
+  all_first t ts x vs gone tail all c calls v w u same is e g = subst (λ l. Stands m v w (hold c l ∷ calls) u) (same ∙ first_of t ts x vs gone tail all is e) g
 
   -- Operands are in temps from one on, and values in temps from another one on, with others before and after them. An address
   -- goes to temp `at`, which is free.
-  pub lefts_follow : (ls : List Left) (ts : List TypeTree) (vs gone tail all : List Value) (uss : List (List Value)) (ahead more : List Value) (c : Frame) (first env : Env) (before scope : List ℕ) (calls : List Frame) (ws : Ways) (k : Env → Go) (w : World) (words : List ℕ) (n top at ho h pc lo b : ℕ) → Panics ws
-      → AreOf ts vs → wide_of gone ≡ h → all ≡ gone ++ (vs ++ tail) → Gives ls uss → wide_of ahead ≡ ho → all ≡ ahead ++ (together uss ++ more) → wide_of all ≡ at
-      → Standing m.code c.fn pc (lefts_code (slots_of m.program c.func) (each_width ts) ls ho at h) → LeftsFit m.program before n (c.func.first + c.func.count) ts ls → at + lefts_far ls ≤ temps_of m.program c.func → c.func.first ≤ n → n + new_sites ls ≤ top → Kept before scope first env n top
-      → Good m (during c env scope all ∷ calls) w words
-      → ((env1 : Env) (w1 : World) (words1 : List ℕ) → Good m (during c env1 (scope_behind scope ls) all ∷ calls) w1 words1 → At m (numbers (c ∷ calls)) lo 0 b (k env1 w1) (pc + lefts_size ls) words1 w1)
-      → At m (numbers (c ∷ calls)) lo 0 b (Meaning.land_all around (landings first ls uss) vs ws env k w) pc words w
-  lefts_follow [] [] vs gone tail all uss ahead more c first env before scope calls ws k w words n top at ho h pc lo b stops are hg e given hp eo ha has fit room from under kept good post = place_is m (let q : pc + 0 ≡ pc = omega arith in q) (post env w words good)
-  lefts_follow [] (t ∷ ts) vs gone tail all uss ahead more c first env before scope calls ws k w words n top at ho h pc lo b stops are hg e given hp eo ha has fit room from under kept good post = absurd fit
-  lefts_follow (l ∷ ls) [] [] gone tail all uss ahead more c first env before scope calls ws k w words n top at ho h pc lo b stops are hg e given hp eo ha has fit room from under kept good post = absurd fit
-  lefts_follow (l ∷ ls) [] (v ∷ vs) gone tail all uss ahead more c first env before scope calls ws k w words n top at ho h pc lo b stops are hg e given hp eo ha has fit room from under kept good post = absurd are
-  lefts_follow (l ∷ ls) (t ∷ ts) [] gone tail all uss ahead more c first env before scope calls ws k w words n top at ho h pc lo b stops are hg e given hp eo ha has fit room from under kept good post = absurd are
-  lefts_follow (blank ∷ ls) (t ∷ ts) (v ∷ vs) gone tail all uss ahead more c first env before scope calls ws k w words n top at ho h pc lo b stops are hg e given hp eo ha has fit room from under kept good post =
-      lefts_follow ls ts vs (gone ++ v ∷ []) tail all uss ahead more c first env before scope calls ws k w words n top at ho (h + width t) pc lo b stops are.1 (one_more gone v h (width t) hg (count_of t v are.0)) (e ∙ sym (append_assoc gone (v ∷ []) (vs ++ tail))) given hp eo ha has fit (omega arith) from under kept good post
-  lefts_follow (new site ∷ ls) (t ∷ ts) (v ∷ vs) gone tail all uss ahead more c first env before scope calls ws k w words n top at ho h pc lo b stops are hg e given hp eo ha has fit room from under kept good post =
-      let s = slots_of m.program c.func in let n1 = width (site_type m.program site) in
-      let count = count_of t v are.0 in let same : width (site_type m.program site) ≡ width t = ap width fit.2 in
-      let good0 = subst (λ l. Good m (during c env scope l ∷ calls) w words) e good in
-      let xs = words_at words (temp s h) n1 in
-      let stand = held_stand m (during c env scope all) calls w words gone (vs ++ tail) v h n1 hg (count ∙ sym same) good0 in
-      let room_from = held_room m (during c env scope all) calls w words gone (vs ++ tail) v h n1 hg (count ∙ sym same) good0 in
-      let cell = Meaning.new_cell around ws.call site v in let words1 = put_words words (site_slot s site) xs in
-      let here = fit.0 in let among = fit.1 in let solid = m.solid site in let long = good.long in
-      let inside = site_within m.program c.func site (omega arith) (omega arith) in
-      let good1 = born_site m (during c env scope all) calls w words cell site xs (omega arith) (omega arith) stand (subst (λ y. IsOf y v) (sym fit.2) are.0) good in
-      let kept1 : Kept before (site ∷ scope) first (with_home env site (length w.store)) (suc n) top =
-      λ u i. (inr (kept u i).0, home_other env site (length w.store) u (λ q. elim (kept u i).2 [ inl l ↦ absurd (omega arith) | inr l ↦ absurd (omega arith) ]) ∙ (kept u i).1, elim (kept u i).2 [ inl l ↦ inl (omega arith) | inr l ↦ inr l ]) in
-      turned m {lo1 = suc lo} (omega arith) (bore m _ _ (m.stacked c.fn c.func good.stack.0.named site (omega arith) (omega arith))
-      (words_moved m {lo = lo} {hi = 0} n1 (site_slot s site) (temp s h) has.0.0 solid (omega arith) room_from
-      (born_kept m cell good.many
-      (lefts_follow ls ts vs (gone ++ v ∷ []) tail all uss ahead more c first (with_home env site (length w.store)) before (site ∷ scope) calls ws k (born w cell) words1 (suc n) top at ho (h + width t) (pc + 1) lo b stops are.1 (one_more gone v h (width t) hg count) (e ∙ sym (append_assoc gone (v ∷ []) (vs ++ tail))) given hp eo ha has.1 fit.3 (omega arith) (omega arith) (omega arith) kept1 good1
-      (λ env1 w1 words2 g2. place_is m (let q : pc + suc (lefts_size ls) ≡ pc + 1 + lefts_size ls = omega arith in q) (post env1 w1 words2 g2))))))
-  lefts_follow (to p ∷ ls) (t ∷ ts) (v ∷ vs) gone tail all [] ahead more c first env before scope calls ws k w words n top at ho h pc lo b stops are hg e given hp eo ha has fit room from under kept good post = absurd given
-  lefts_follow (to p ∷ ls) (t ∷ ts) (v ∷ vs) gone tail all (us ∷ uss) ahead more c first env before scope calls ws k w words n top at ho h pc lo b stops are hg e given hp eo ha has fit room from under kept good post =
+  pub lefts_follow : (ls : List Left) (ts : List TypeTree) (vs : List Value) (gone tail all : List Kept) (uss : List (List Value)) (ahead more : List Kept) (c : Frame) (first env : Env) (before scope : List ℕ) (calls : List Frame) (ws : Ways) (k : Env → Go) (v : View) (w : World) (n top at ho h pc lo b : ℕ) → Panics ws
+      → AreOf ts vs → length gone ≡ h → all ≡ gone ++ (all_kept ts vs ++ tail) → Gives ls uss → length ahead ≡ ho → all ≡ ahead ++ (all_kept (left_types ls) (together uss) ++ more) → length all ≡ at
+      → Standing m.code c.fn pc (lefts_code (slots_of m.program c.func) (each_width ts) ls ho at h) → LeftsFit m.program before n (c.func.first + c.func.count) ts ls → at + lefts_far ls ≤ temps_of m.program c.func → c.func.first ≤ n → n + new_sites ls ≤ top → Keeping before scope first env n top
+      → ((env1 : Env) (w1 : World) (v1 : View) → At m lo 0 b v1 (k env1 w1) (Stands m v1 w1 (during c env1 (scope_behind scope ls) all ∷ calls)) (pc + lefts_size ls))
+      → At m lo 0 b v (Meaning.land_all around (landings first ls uss) vs ws env k w) (Stands m v w (during c env scope all ∷ calls)) pc
+  lefts_follow [] [] vs gone tail all uss ahead more c first env before scope calls ws k v w n top at ho h pc lo b stops are hg e gives hp eo ha has fit room from under keeping post = place_is m (let q : pc + 0 ≡ pc = omega arith in q) (post env w v)
+  lefts_follow [] (t ∷ ts) vs gone tail all uss ahead more c first env before scope calls ws k v w n top at ho h pc lo b stops are hg e gives hp eo ha has fit room from under keeping post = absurd fit
+  lefts_follow (l ∷ ls) [] [] gone tail all uss ahead more c first env before scope calls ws k v w n top at ho h pc lo b stops are hg e gives hp eo ha has fit room from under keeping post = absurd fit
+  lefts_follow (l ∷ ls) [] (x ∷ vs) gone tail all uss ahead more c first env before scope calls ws k v w n top at ho h pc lo b stops are hg e gives hp eo ha has fit room from under keeping post = absurd are
+  lefts_follow (l ∷ ls) (t ∷ ts) [] gone tail all uss ahead more c first env before scope calls ws k v w n top at ho h pc lo b stops are hg e gives hp eo ha has fit room from under keeping post = absurd are
+  lefts_follow (blank ∷ ls) (t ∷ ts) (x ∷ vs) gone tail all uss ahead more c first env before scope calls ws k v w n top at ho h pc lo b stops are hg e gives hp eo ha has fit room from under keeping post =
+      lefts_follow ls ts vs (gone ++ kept t x) tail all uss ahead more c first env before scope calls ws k v w n top at ho (h + width t) pc lo b stops are.1 (one_more gone t x h (width t) hg refl) (next_held t ts x vs gone tail all are.0 e) gives hp eo ha has fit (omega arith) from under keeping post
+  lefts_follow (new site ∷ ls) (t ∷ ts) (x ∷ vs) gone tail all uss ahead more c first env before scope calls ws k v w n top at ho h pc lo b stops are hg e gives hp eo ha has fit room from under keeping post =
+      let s = slots_of m.program c.func in let n1 = width (site_type m.program site) in let c0 = during c env scope all in
+      let same : width (site_type m.program site) ≡ width t = ap width fit.2 in
+      let cell = Meaning.new_cell around ws.call site x in
+      let here = fit.0 in let among = fit.1 in let solid = m.solid site in
+      let kind = cell_kind m around sites_are site in
+      let typed : IsOf cell.type x = subst (λ y. IsOf y x) (sym (kind ∙ fit.2)) are.0 in
+      let d = depth m.program (c0 ∷ calls) - site_slot s site in
+      let first_held = λ (u : Memory) (g : Stands m v w (c0 ∷ calls) u). all_first t ts x vs gone tail all c0 calls v w u refl are.0 e g in
+      let keeping1 : Keeping before (site ∷ scope) first (with_home env site (length w.store)) (suc n) top =
+      λ u i. (inr (keeping u i).0, home_other env site (length w.store) u (λ q. elim (keeping u i).2 [ inl l ↦ absurd (omega arith) | inr l ↦ absurd (omega arith) ]) ∙ (keeping u i).1, elim (keeping u i).2 [ inl l ↦ inl (omega arith) | inr l ↦ inr l ]) in
+      turned m {lo1 = suc lo} (omega arith)
+      (births_at m {lo = lo} {hi = 0} {G1 = Stands m (after_stack v d) (born w cell) (grown c0 site (length w.store) ∷ calls)} c0 calls v w site _ pc cell (moves n1 (site_slot s site) (temp s h)) (λ u. words_at u.words (temp s h) n1) has.0.0 (omega arith) (omega arith) kind typed (λ u g. g)
+      (λ u g. moved_by m n1 (site_slot s site) (temp s h) pc u solid (site_room m c0 calls v w u site (omega arith) (omega arith) g) (held_room m v w c0 calls u gone (all_kept ts vs ++ tail) t x h n1 hg same (first_held u g)))
+      (λ u g. subst (λ o. Stand v.homes u.hi w (leaves o) (contents x) (words_at u.words (temp s h) n1)) (sym (kind ∙ fit.2)) (held_stand m v w c0 calls u gone (all_kept ts vs ++ tail) t x h n1 hg same (first_held u g)))
+      (λ u g k. k)
+      (lefts_follow ls ts vs (gone ++ kept t x) tail all uss ahead more c first (with_home env site (length w.store)) before (site ∷ scope) calls ws k (after_stack v d) (born w cell) (suc n) top at ho (h + width t) (pc + 1) lo b stops are.1 (one_more gone t x h (width t) hg refl) (next_held t ts x vs gone tail all are.0 e) gives hp eo ha has.1 fit.3 (omega arith) (omega arith) (omega arith) keeping1
+      (λ env1 w1 v1. place_is m (let q : pc + suc (lefts_size ls) ≡ pc + 1 + lefts_size ls = omega arith in q) (post env1 w1 v1))))
+  lefts_follow (to p ∷ ls) (t ∷ ts) (x ∷ vs) gone tail all [] ahead more c first env before scope calls ws k v w n top at ho h pc lo b stops are hg e gives hp eo ha has fit room from under keeping post = absurd gives
+  lefts_follow (to p ∷ ls) (t ∷ ts) (x ∷ vs) gone tail all (us ∷ uss) ahead more c first env before scope calls ws k v w n top at ho h pc lo b stops are hg e gives hp eo ha has fit room from under keeping post =
       let s = slots_of m.program c.func in let above = place_above p ho in let c0 = during c env scope all in
       let ca = address_code s p ho at in let land = land_code s p at h in let rest = lefts_code s (each_width ts) ls above at (h + width t) in
       let has_l = back m.code c.fn pc (address_size p) ca (land ∷ []) (length_address s p ho at) (front m.code c.fn pc (ca ++ land ∷ []) rest has) in
       let has_r = back m.code c.fn pc (address_size p + 1) (ca ++ land ∷ []) rest (length_write s p ho at h) has in
-      let same = kept_place before scope first env n top t p kept fit.0 in
-      let after = λ (x : World). Meaning.land_all around (landings first ls uss) vs ws env k x in
-      let apart : all ≡ ahead ++ (us ++ (together uss ++ more)) = eo ∙ ap (λ l. ahead ++ l) (append_assoc us (together uss) more) in
-      settled_follow m p t us ahead (together uss ++ more) c0 calls ws env first (λ q. Meaning.write_part q.variable q.path v after) w words ho at pc lo b stops same.0 given.0 apart hp ha (omega arith)
-      (front m.code c.fn pc ca (land ∷ []) (front m.code c.fn pc (ca ++ land ∷ []) rest has)) good (λ path word words1 part g1.
-      let address = held_by m (far p) word in let c1 = during c env scope (all ++ address) in
-      let there = address_at m p t c0 calls w words1 path all [] at word same.0 part ha (subst (λ l. Good m (during c env scope l ∷ calls) w words1) (sym (append-nil (all ++ address))) g1) in
-      let among : all ++ address ≡ gone ++ v ∷ ((vs ++ tail) ++ address) = ap (λ l. l ++ address) e ∙ append_assoc gone (v ∷ (vs ++ tail)) address in
-      later m {lo = suc lo} {hi = 1} {b = b} (omega arith) (omega arith) (omega arith) (write_of m _ _ _
-      (subst (λ u. At m (numbers (c ∷ calls)) (suc lo) 1 b (after (written w u path v)) (pc + address_size p) words1 w) same.1
-      (landed m c1 calls p t path word gone ((vs ++ tail) ++ address) v w words1 (numbers (c ∷ calls)) at h (pc + address_size p) lo 0 b _ has_l.0.0 same.0 part there among hg are.0 g1 (λ words2 g2.
-      let w1 = written w (variable_of env p) path v in
-      lefts_follow ls ts vs (gone ++ v ∷ []) tail all uss (ahead ++ us) more c first env before scope calls ws k w1 words2 n top at above (h + width t) (pc + address_size p + 1) lo b stops are.1 (one_more gone v h (width t) hg (count_of t v are.0)) (e ∙ sym (append_assoc gone (v ∷ []) (vs ++ tail))) given.1
-      (operands_above p us ho ahead hp given.0) (apart ∙ sym (append_assoc ahead us (together uss ++ more))) ha
-      (subst (λ x. Standing m.code c.fn x rest) (let q : pc + (address_size p + 1) ≡ pc + address_size p + 1 = omega arith in q) has_r) fit.1 (omega arith) from under kept (fewer m c0 calls w1 words2 all address g2)
-      (λ env1 w2 words3 g3. place_is m (let q : pc + (address_size p + 1 + lefts_size ls) ≡ pc + address_size p + 1 + lefts_size ls = omega arith in q) (post env1 w2 words3 g3)))))))
+      let same = kept_place before scope first env n top t p keeping fit.0 in
+      let after = λ (y : World). Meaning.land_all around (landings first ls uss) vs ws env k y in
+      let ops = all_kept (index_types (steps_of p)) us in let others = all_kept (left_types ls) (together uss) in
+      let apart : all ≡ ahead ++ (ops ++ (others ++ more)) = eo ∙ ap (λ l. ahead ++ (l ++ more)) (first_operands p us ls uss gives.0) ∙ ap (λ l. ahead ++ l) (append_assoc ops others more) in
+      settled_follow m p t us ahead (others ++ more) c0 calls ws env first (λ q. Meaning.write_part q.variable q.path x after) v w ho at pc lo b stops same.0 same.1 gives.0 apart hp ha (omega arith)
+      (front m.code c.fn pc ca (land ∷ []) (front m.code c.fn pc (ca ++ land ∷ []) rest has)) (λ path leads.
+      let by = place_held m env p t path in let c1 = during c env scope (all ++ by) in
+      let among : all ++ by ≡ gone ++ (kept t x ++ ((all_kept ts vs ++ tail) ++ by)) =
+      ap (λ l. l ++ by) (first_of t ts x vs gone tail all are.0 e) ∙ append_assoc gone (kept t x ++ (all_kept ts vs ++ tail)) by ∙ ap (λ l. gone ++ l) (append_assoc (kept t x) (all_kept ts vs ++ tail) by) in
+      let w1 = written w (variable_of env p) path x in
+      later m {lo = suc lo} {hi = 1} {b = b} (omega arith) (omega arith) (omega arith) (written_to m _ _ _
+      (subst (λ u. At m (suc lo) 1 b v (after (written w u path x)) (Stands m v w (c1 ∷ calls)) (pc + address_size p)) same.1
+      (landed m p t path x c1 calls gone ((all_kept ts vs ++ tail) ++ by) v w at h (pc + address_size p) lo 0 b _ has_l.0.0 same.0 leads
+      (λ i f. ap (λ l. slice_get l at) (ap (λ l. all ++ l) (sym (append-nil by))) ∙ held_there m (far p) i t _ path _ all [] at ha f) among hg are.0
+      (given m (λ u g. fewer m v w1 c0 calls u all by g)
+      (lefts_follow ls ts vs (gone ++ kept t x) tail all uss (ahead ++ ops) more c first env before scope calls ws k v w1 n top at above (h + width t) (pc + address_size p + 1) lo b stops are.1 (one_more gone t x h (width t) hg refl) (next_held t ts x vs gone tail all are.0 e) gives.1
+      (operands_above p us ho ahead hp gives.0) (apart ∙ sym (append_assoc ahead ops (others ++ more))) ha
+      (subst (λ y. Standing m.code c.fn y rest) (let q : pc + (address_size p + 1) ≡ pc + address_size p + 1 = omega arith in q) has_r) fit.1 (omega arith) from under keeping
+      (λ env1 w2 v1. place_is m (let q : pc + (address_size p + 1 + lefts_size ls) ≡ pc + address_size p + 1 + lefts_size ls = omega arith in q) (post env1 w2 v1))))))))
 
   -- a new round's variables get the values of the old ones, through temps from h on
-  pub renew_follows : (sites : List ℕ) (c : Frame) (env : Env) (scope : List ℕ) (held : List Value) (calls : List Frame) (entry : ℕ) (k : Env → Go) (w : World) (words : List ℕ) (h pc lo b : ℕ) → wide_of held ≡ h → h + widest m.program sites ≤ temps_of m.program c.func → AllInScope scope sites
-      → Standing m.code c.fn pc (renew_code (slots_of m.program c.func) sites h) → Good m (during c env scope held ∷ calls) w words
-      → ((env1 : Env) (w1 : World) (words1 : List ℕ) → Good m (during c env1 scope held ∷ calls) w1 words1 → At m (numbers (c ∷ calls)) lo 0 b (k env1 w1) (pc + renew_size sites) words1 w1)
-      → At m (numbers (c ∷ calls)) lo 0 b (Meaning.renew around entry sites env k w) pc words w
-  renew_follows [] c env scope held calls entry k w words h pc lo b hh room among has good post = place_is m (let q : pc + 0 ≡ pc = omega arith in q) (post env w words good)
-  renew_follows (site ∷ sites) c env scope held calls entry k w words h pc lo b hh room among has good post =
-      let s = slots_of m.program c.func in let v = value_of w (env site) in let old = during c env scope held in
-      let n = width (site_type m.program site) in let solid = m.solid site in
-      let typed = good.stack.0.types site among.0 in
-      let count = count_of (site_type m.program site) v typed in
-      let xs = words_at words (site_slot s site) n in let words1 = put_words words (temp s h) xs in
-      let ys = words_at words1 (temp s h) n in let words2 = put_words words1 (site_slot s site) ys in
-      let cell = Meaning.new_cell around entry site v in
-      let places = good.stack.0.among site among.0 in
-      let inside = site_room m old calls w words site among.0 good in
-      let long = good.long in
-      let good1 = value_put m old calls w words xs h n v hh count (omega arith) (site_stand m old calls w words site among.0 good) good in
-      let long1 = good1.long in
-      let good2 = born_site m (hold old (held ++ v ∷ [])) calls w words1 cell site ys places.0 places.1 (held_stand m old calls w words1 held [] v h n hh count good1) typed good1 in
-      let good3 = narrowed m old (with_home env site (length w.store)) (site ∷ scope) scope calls (born w cell) words2 (λ u i. inr i) (fewer m (grown old site (length w.store)) calls (born w cell) words2 held (v ∷ []) good2) in
+  pub renew_follows : (sites : List ℕ) (c : Frame) (env : Env) (scope : List ℕ) (held : List Kept) (calls : List Frame) (entry : ℕ) (k : Env → Go) (v : View) (w : World) (h pc lo b : ℕ) → length held ≡ h → h + widest m.program sites ≤ temps_of m.program c.func → AllInScope scope sites
+      → Standing m.code c.fn pc (renew_code (slots_of m.program c.func) sites h)
+      → ((env1 : Env) (w1 : World) (v1 : View) → At m lo 0 b v1 (k env1 w1) (Stands m v1 w1 (during c env1 scope held ∷ calls)) (pc + renew_size sites))
+      → At m lo 0 b v (Meaning.renew around entry sites env k w) (Stands m v w (during c env scope held ∷ calls)) pc
+  renew_follows [] c env scope held calls entry k v w h pc lo b hh room among has post = place_is m (let q : pc + 0 ≡ pc = omega arith in q) (post env w v)
+  renew_follows (site ∷ sites) c env scope held calls entry k v w h pc lo b hh room among has post =
+      let s = slots_of m.program c.func in let x = value_of w (env site) in let old = during c env scope held in let t = site_type m.program site in
+      let n = width t in let solid = m.solid site in let cell = Meaning.new_cell around entry site x in
+      let kind = cell_kind m around sites_are site in
+      let c1 = during c env scope (held ++ kept t x) in let d = depth m.program (c1 ∷ calls) - site_slot s site in
       let q : pc + suc (suc (renew_size sites)) ≡ pc + 1 + 1 + renew_size sites = omega arith in
-      turned m {lo1 = suc (suc lo)} (omega arith) (seen m _ (read_of m _ _ _ (bore m _ _ (m.stacked c.fn c.func good.stack.0.named site places.0 places.1)
+      let env1 = with_home env site (length w.store) in
+      knowing m (λ s0 g0.
+      let places = g0.homed.owned.0.among site among.0 in let typed = site_typed m old calls v w s0 site among.0 g0 in
+      turned m {lo1 = suc (suc lo)} (omega arith) (seen m _ (read_of m _ _ _
       (later m {lo = suc (suc lo)} {hi = 1} {b = b} (omega arith) (omega arith) (omega arith)
-      (words_moved m {lo = suc lo} {hi = 1} n (temp s h) (site_slot s site) has.0.0 solid (omega arith) inside
-      (words_moved m {lo = lo} {hi = 0} n (site_slot s site) (temp s h) has.1.0.0 solid (omega arith) (omega arith)
-      (born_kept m cell good.many
-      (renew_follows sites c (with_home env site (length w.store)) scope held calls entry k (born w cell) words2 h (pc + 1 + 1) lo b hh (omega arith) among.1 has.1.1 good3
-      (λ env1 w1 words3 g3. place_is m q (post env1 w1 words3 g3))))))))))
+      (words_moved m {lo = suc lo} {hi = 1} {G1 = Stands m v w (c1 ∷ calls)} n (temp s h) (site_slot s site) has.0.0 solid
+      (λ u g. ((let long = g.sized.used in omega arith), site_room m old calls v w u site places.0 places.1 g, value_put m v w old calls u h t x (words_at u.words (site_slot s site) n) hh (omega arith) (site_stand m old calls v w u site among.0 g) g))
+      (births_at m {lo = lo} {hi = 0} {G1 = Stands m (after_stack v d) (born w cell) (during c env1 scope held ∷ calls)} c1 calls v w site _ (pc + 1) cell (moves n (site_slot s site) (temp s h)) (λ u. words_at u.words (temp s h) n) has.1.0.0 places.0 places.1 kind (subst (λ o. IsOf o x) (sym kind) typed) (λ u g. g)
+      (λ u g. moved_by m n (site_slot s site) (temp s h) (pc + 1) u solid (site_room m c1 calls v w u site places.0 places.1 g) (last_room m v w old calls u held t x h n hh refl g))
+      (λ u g. subst (λ o. Stand v.homes u.hi w (leaves o) (contents x) (words_at u.words (temp s h) n)) (sym kind) (last_stand m v w old calls u held t x h n hh refl g))
+      (λ u g k. narrowed m.program m.max (after_stack v d) (born w cell) (during c env1 (site ∷ scope) held) calls (puts u (site_slot s site) (words_at u.words (temp s h) n)) env1 (site ∷ scope) scope (λ i j. inr j)
+      (fewer m (after_stack v d) (born w cell) (during c env1 (site ∷ scope) held) calls (puts u (site_slot s site) (words_at u.words (temp s h) n)) held (kept t x) k))
+      (renew_follows sites c env1 scope held calls entry k (after_stack v d) (born w cell) h (pc + 1 + 1) lo b hh (omega arith) among.1 has.1.1
+      (λ env2 w1 v1. place_is m q (post env2 w1 v1)))))))))
 
   -- new variables with zeros
-  module _ (zero_is : (site : ℕ) → StandIn (contents (Meaning.zero_of around site)) (replicate (width (site_type m.program site)) 0) × IsOf (site_type m.program site) (Meaning.zero_of around site)) where
-    pub zeros_follow : (sites : List ℕ) (c : Frame) (env : Env) (scope : List ℕ) (held : List Value) (calls : List Frame) (entry : ℕ) (k : Env → Go) (w : World) (words : List ℕ) (n pc lo b : ℕ) → Standing m.code c.fn pc (zeros_code (slots_of m.program c.func) sites)
-        → SitesNext n (c.func.first + c.func.count) sites → c.func.first ≤ n → Good m (during c env scope held ∷ calls) w words
-        → ((env1 : Env) (w1 : World) (words1 : List ℕ) → Good m (during c env1 (scope_with scope sites) held ∷ calls) w1 words1 → At m (numbers (c ∷ calls)) lo 0 b (k env1 w1) (pc + length sites) words1 w1)
-        → At m (numbers (c ∷ calls)) lo 0 b (Meaning.bear_zeros around entry sites env k w) pc words w
-    zeros_follow [] c env scope held calls entry k w words n pc lo b has fit from good post = place_is m (let e : pc + 0 ≡ pc = omega arith in e) (post env w words good)
-    zeros_follow (site ∷ sites) c env scope held calls entry k w words n pc lo b has fit from good post =
-        let s = slots_of m.program c.func in let n1 = width (site_type m.program site) in let words1 = put_words words (site_slot s site) (replicate n1 0) in
-        let cell = Meaning.new_cell around entry site (Meaning.zero_of around site) in
-        let here = fit.0 in let among = fit.1 in let solid = m.solid site in let long = good.long in
-        let inside = site_within m.program c.func site (omega arith) (omega arith) in
-        let good1 = born_site m (during c env scope held) calls w words cell site (replicate n1 0) (omega arith) (omega arith) (zero_is site).0 (zero_is site).1 good in
-        turned m {lo1 = suc lo} (omega arith) (bore m _ _ (m.stacked c.fn c.func good.stack.0.named site (omega arith) (omega arith))
-        (words_zeroed m {lo = lo} {hi = 0} n1 (site_slot s site) has.0.0 solid (omega arith)
-        (born_kept m cell good.many
-        (zeros_follow sites c (with_home env site (length w.store)) (site ∷ scope) held calls entry k (born w cell) words1 (suc n) (pc + 1) lo b has.1 fit.2 (omega arith) good1
-        (λ env1 w1 words2 g2. place_is m (let e : pc + suc (length sites) ≡ pc + 1 + length sites = omega arith in e) (post env1 w1 words2 g2))))))
+  pub zeros_follow : (sites : List ℕ) (c : Frame) (env : Env) (scope : List ℕ) (held : List Kept) (calls : List Frame) (entry : ℕ) (k : Env → Go) (v : View) (w : World) (n pc lo b : ℕ) → Standing m.code c.fn pc (zeros_code (slots_of m.program c.func) sites)
+      → SitesNext n (c.func.first + c.func.count) sites → c.func.first ≤ n
+      → ((env1 : Env) (w1 : World) (v1 : View) → At m lo 0 b v1 (k env1 w1) (Stands m v1 w1 (during c env1 (scope_with scope sites) held ∷ calls)) (pc + length sites))
+      → At m lo 0 b v (Meaning.bear_zeros around entry sites env k w) (Stands m v w (during c env scope held ∷ calls)) pc
+  zeros_follow [] c env scope held calls entry k v w n pc lo b has fit from post = place_is m (let e : pc + 0 ≡ pc = omega arith in e) (post env w v)
+  zeros_follow (site ∷ sites) c env scope held calls entry k v w n pc lo b has fit from post =
+      let s = slots_of m.program c.func in let c0 = during c env scope held in let t = site_type m.program site in let n1 = width t in
+      let x = Meaning.zero_of around site in let cell = Meaning.new_cell around entry site x in
+      let here = fit.0 in let among = fit.1 in let solid = m.solid site in let kind = cell_kind m around sites_are site in
+      let d = depth m.program (c0 ∷ calls) - site_slot s site in
+      turned m {lo1 = suc lo} (omega arith)
+      (births_at m {lo = lo} {hi = 0} {G1 = Stands m (after_stack v d) (born w cell) (grown c0 site (length w.store) ∷ calls)} c0 calls v w site _ pc cell (zeros_at n1 (site_slot s site)) (λ u. replicate n1 0) has.0.0 (omega arith) (omega arith) kind (zero_typed m around sites_are site) (λ u g. g)
+      (λ u g. zeroed_by m n1 (site_slot s site) pc u solid (site_room m c0 calls v w u site (omega arith) (omega arith) g))
+      (λ u g. subst (λ o. Stand v.homes u.hi w (leaves o) (contents x) (replicate n1 0)) (sym kind) (subst (λ y. Stand v.homes u.hi w (leaves t) (contents y) (replicate n1 0)) (sym (zero_value m around sites_are site)) (zero_stands v.homes u.hi w t)))
+      (λ u g k. k)
+      (zeros_follow sites c (with_home env site (length w.store)) (site ∷ scope) held calls entry k (after_stack v d) (born w cell) (suc n) (pc + 1) lo b has.1 fit.2 (omega arith)
+      (λ env1 w1 v1. place_is m (let e : pc + suc (length sites) ≡ pc + 1 + length sites = omega arith in e) (post env1 w1 v1))))

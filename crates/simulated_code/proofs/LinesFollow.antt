@@ -1,23 +1,27 @@
 -- The machine follows the printing of operands.
-use Rattle.std.proofs.Common.{◌≡◌, ℕ, suc, ◌+◌, true, false, List, [], ◌∷◌, ◌++◌, length, refl, sym, ap, ◌∙◌, subst, arith, append_assoc, get_or}
+use Rattle.std.proofs.Common.{◌≡◌, ℕ, suc, ◌+◌, true, false, List, [], ◌∷◌, ◌++◌, length, refl, sym, ap, ◌∙◌, subst, arith, get_or}
 use Rattle.std.specs.Prelude.{slice_get, slice_index, Some}
 use Rattle.std.specs.Fmt.{signed_decimal}
 use Rattle.typed_syntax.specs.Value.{Value, int, bool, IsOf}
 use Rattle.typed_syntax.specs.Syntax.{Piece, text, shown}
 use Rattle.typed_syntax.specs.Types.{TypeTree, ints, bools, struct_of, array_of}
-use Rattle.simulated_code.proofs.Numbers.{no_struct, no_array}
 use Rattle.typed_syntax.specs.Form.{IsPlain, AreOf}
 use Rattle.meaning.specs.Trace.{World, Print, Trace, Note}
 use Rattle.meaning.specs.Meaning
 use Rattle.meaning.specs.Meaning.{Go, shown_bytes}
 use Rattle.simulation.specs.Steps.{Goes}
 use Rattle.isa.specs.declared.instr.Instr.TheVariants.{PrintInt, PrintBool, PrintText, PrintSpace, PrintLine}
-use Rattle.machine.specs.Machine.{State, Printed, truth_bytes}
+use Rattle.machine.specs.Machine.{Printed, truth_bytes}
 use Rattle.program_code.specs.Code.{temp, slots_of, shown_code, show_more, show_line, show_plain, more_size, shown_size}
-use Rattle.simulated_code.proofs.Frames.{Built, Stands, Frame, hold, numbers, Good, wide_of}
-use Rattle.simulated_code.proofs.Changes.{one_more, held_word}
-use Rattle.simulated_code.proofs.Places.{Standing, At, place_is, turned, printing}
-use Rattle.program_code.proofs.Wide.{AllPlain, plain_value}
+use Rattle.program_code.proofs.Wide.{AllPlain, plain_one}
+use Rattle.state_relation.specs.Views.{View}
+use Rattle.state_relation.specs.Relation.{Memory, Kept, Frame, hold}
+use Rattle.state_relation.proofs.Words.{Spells}
+use Rattle.state_relation.proofs.Built.{Built}
+use Rattle.state_relation.proofs.Rules.{state_of, At, Stands, place_is, turned, printing}
+use Rattle.state_relation.proofs.Values.{kept, all_kept, all_kept_first, one_more, more_kept, held_word}
+use Rattle.simulated_code.proofs.Numbers.{no_struct, no_array}
+use Rattle.simulated_code.proofs.Standing.{Standing}
 
 -- the types of the operands that are values
 abbrev pub piece_types : List Piece → List TypeTree
@@ -34,70 +38,72 @@ texts strings (shown t e ∷ ps) (v ∷ vs) = shown_bytes v ∷ texts strings ps
 
 module _ (m : Built) where
   -- an operand's value
-  value_printed : {w : World} (t : TypeTree) (v : Value) (running : List ℕ) (words : List ℕ) (a pc lo hi b : ℕ) (rest : Trace) → IsPlain t → IsOf t v → slice_get m.code.instrs pc ≡ Some (shown_code t a) → Stands v (slice_index words a)
-      → At m running lo hi b rest (pc + 1) words w → At m running (suc lo) 1 b (Note (Print (shown_bytes v)) rest) pc words w
-  value_printed {w} ints (int z) running words a pc lo hi b rest plain typed here stands post =
-      printing m {lo = lo} {hi = hi} (PrintInt a) (signed_decimal z) here (λ heap. let s1 : State = record { pc = pc + 1; words = words; reads = w.reads; heap = heap } in ap (λ x. Goes (Printed (signed_decimal x) ∷ []) s1) stands.0) post
-  value_printed {w} bools (bool true) running words a pc lo hi b rest plain typed here stands post =
-      printing m {lo = lo} {hi = hi} (PrintBool a) _ here (λ heap. let s1 : State = record { pc = pc + 1; words = words; reads = w.reads; heap = heap } in ap (λ x. Goes (Printed (truth_bytes x) ∷ []) s1) stands) post
-  value_printed {w} bools (bool false) running words a pc lo hi b rest plain typed here stands post =
-      printing m {lo = lo} {hi = hi} (PrintBool a) _ here (λ heap. let s1 : State = record { pc = pc + 1; words = words; reads = w.reads; heap = heap } in ap (λ x. Goes (Printed (truth_bytes x) ∷ []) s1) stands) post
-  value_printed {w} ints v running words a pc lo hi b rest plain typed here stands post = absurd typed
-  value_printed {w} bools v running words a pc lo hi b rest plain typed here stands post = absurd typed
-  value_printed {w} (struct_of ts) v running words a pc lo hi b rest plain typed here stands post = absurd (no_struct ts plain)
-  value_printed {w} (array_of n t) v running words a pc lo hi b rest plain typed here stands post = absurd (no_array n t plain)
+  value_printed : {v : View} {G : Memory → Type 0} (t : TypeTree) (x : Value) (a pc lo hi b : ℕ) (rest : Trace) → IsPlain t → IsOf t x → slice_get m.code.instrs pc ≡ Some (shown_code t a) → ((u : Memory) → G u → Spells x (slice_index u.words a))
+      → At m lo hi b v rest G (pc + 1) → At m (suc lo) 1 b v (Note (Print (shown_bytes x)) rest) G pc
+  value_printed ints (int z) a pc lo hi b rest plain typed here stands post =
+      printing m {lo = lo} {hi = hi} (PrintInt a) (signed_decimal z) here (λ u g. (ap (λ y. Goes (Printed (signed_decimal y) ∷ []) (state_of m (pc + 1) u)) (stands u g).0, g)) post
+  value_printed bools (bool true) a pc lo hi b rest plain typed here stands post =
+      printing m {lo = lo} {hi = hi} (PrintBool a) _ here (λ u g. (ap (λ y. Goes (Printed (truth_bytes y) ∷ []) (state_of m (pc + 1) u)) (stands u g), g)) post
+  value_printed bools (bool false) a pc lo hi b rest plain typed here stands post =
+      printing m {lo = lo} {hi = hi} (PrintBool a) _ here (λ u g. (ap (λ y. Goes (Printed (truth_bytes y) ∷ []) (state_of m (pc + 1) u)) (stands u g), g)) post
+  value_printed ints x a pc lo hi b rest plain typed here stands post = absurd typed
+  value_printed bools x a pc lo hi b rest plain typed here stands post = absurd typed
+  value_printed (struct_of ts) x a pc lo hi b rest plain typed here stands post = absurd (no_struct ts plain)
+  value_printed (array_of n t) x a pc lo hi b rest plain typed here stands post = absurd (no_array n t plain)
+
+  -- one among values that are held
+  held_next : (v : View) (w : World) (c : Frame) (calls : List Frame) (before all : List Kept) (t : TypeTree) (ts : List TypeTree) (x : Value) (vs : List Value) (h : ℕ) → IsPlain t → IsOf t x → length before ≡ h → all ≡ before ++ all_kept (t ∷ ts) (x ∷ vs) → (u : Memory) → Stands m v w (hold c all ∷ calls) u
+      → Spells x (slice_index u.words (temp (slots_of m.program c.func) h))
+  held_next v w c calls before all t ts x vs h plain typed hb e u g =
+      held_word m v w c calls u before (all_kept ts vs) t x h hb (plain_one t plain) (subst (λ l. Stands m v w (hold c l ∷ calls) u) (e ∙ ap (λ l. before ++ l) (all_kept_first t ts x vs typed)) g)
 
   -- the strings are those of the program
   module _ (strings : List (List ℕ)) (same : strings ≡ m.program.strings) where
-    text_printed : {w : World} (number : ℕ) (running : List ℕ) (words : List ℕ) (pc lo hi b : ℕ) (rest : Trace) → slice_get m.code.instrs pc ≡ Some (PrintText number)
-        → At m running lo hi b rest (pc + 1) words w → At m running (suc lo) 1 b (Note (Print (get_or strings number [])) rest) pc words w
-    text_printed {w} number running words pc lo hi b rest here post =
-        printing m {lo = lo} {hi = hi} (PrintText number) (get_or strings number []) here (λ heap. let s1 : State = record { pc = pc + 1; words = words; reads = w.reads; heap = heap } in ap (λ ss. Goes (Printed (get_or ss number []) ∷ []) s1) (m.strings ∙ sym same)) post
+    text_printed : {v : View} {G : Memory → Type 0} (number pc lo hi b : ℕ) (rest : Trace) → slice_get m.code.instrs pc ≡ Some (PrintText number) → At m lo hi b v rest G (pc + 1) → At m (suc lo) 1 b v (Note (Print (get_or strings number [])) rest) G pc
+    text_printed number pc lo hi b rest here post =
+        printing m {lo = lo} {hi = hi} (PrintText number) (get_or strings number []) here (λ u g. (ap (λ ss. Goes (Printed (get_or ss number []) ∷ []) (state_of m (pc + 1) u)) (m.strings ∙ sym same), g)) post
 
-    more_follows : (ps : List Piece) (vs before all : List Value) (g : Go) (c : Frame) (calls : List Frame) (w : World) (words : List ℕ) (h pc lo b : ℕ) → AllPlain (piece_types ps) → AreOf (piece_types ps) vs → wide_of before ≡ h → all ≡ before ++ vs → Standing m.code c.fn pc (show_more (slots_of m.program c.func) ps h)
-        → Good m (hold c all ∷ calls) w words → At m (numbers (c ∷ calls)) lo 0 b (g w) (pc + more_size ps) words w → At m (numbers (c ∷ calls)) lo 0 b (Meaning.emit_more (texts strings ps vs) g w) pc words w
-    more_follows [] vs before all g c calls w words h pc lo b plain are hb e has good post =
-        turned m {lo1 = suc lo} (omega arith) (printing m {lo = lo} {hi = 0} PrintLine (10 ∷ []) has.0.0 (λ heap. refl) post)
-    more_follows (text number ∷ ps) vs before all g c calls w words h pc lo b plain are hb e has good post =
+    more_follows : (ps : List Piece) (vs : List Value) (before all : List Kept) (g : Go) (c : Frame) (calls : List Frame) (v : View) (w : World) (h pc lo b : ℕ) → AllPlain (piece_types ps) → AreOf (piece_types ps) vs → length before ≡ h → all ≡ before ++ all_kept (piece_types ps) vs → Standing m.code c.fn pc (show_more (slots_of m.program c.func) ps h)
+        → At m lo 0 b v (g w) (Stands m v w (hold c all ∷ calls)) (pc + more_size ps) → At m lo 0 b v (Meaning.emit_more (texts strings ps vs) g w) (Stands m v w (hold c all ∷ calls)) pc
+    more_follows [] vs before all g c calls v w h pc lo b plain are hb e has post =
+        turned m {lo1 = suc lo} (omega arith) (printing m {lo = lo} {hi = 0} PrintLine (10 ∷ []) has.0.0 (λ u k. (refl, k)) post)
+    more_follows (text number ∷ ps) vs before all g c calls v w h pc lo b plain are hb e has post =
         let q : pc + suc (suc (more_size ps)) ≡ pc + 1 + 1 + more_size ps = omega arith in
-        turned m {lo1 = suc (suc lo)} (omega arith) (printing m {lo = suc lo} {hi = 1} PrintSpace (32 ∷ []) has.0.0 (λ heap. refl)
-        (text_printed number (numbers (c ∷ calls)) words (pc + 1) lo 0 b _ has.1.0.0
-        (more_follows ps vs before all g c calls w words h (pc + 1 + 1) lo b plain are hb e has.1.1 good (place_is m q post))))
-    more_follows (shown t x ∷ ps) [] before all g c calls w words h pc lo b plain are hb e has good post = absurd are
-    more_follows (shown t x ∷ ps) (v ∷ vs) before all g c calls w words h pc lo b plain are hb e has good post =
-        let stands = held_word m c calls w words before vs v h hb (plain_value t v plain.0 are.0) (subst (λ l. Good m (hold c l ∷ calls) w words) e good) in
+        turned m {lo1 = suc (suc lo)} (omega arith) (printing m {lo = suc lo} {hi = 1} PrintSpace (32 ∷ []) has.0.0 (λ u k. (refl, k))
+        (text_printed number (pc + 1) lo 0 b _ has.1.0.0
+        (more_follows ps vs before all g c calls v w h (pc + 1 + 1) lo b plain are hb e has.1.1 (place_is m q post))))
+    more_follows (shown t x ∷ ps) [] before all g c calls v w h pc lo b plain are hb e has post = absurd are
+    more_follows (shown t x ∷ ps) (y ∷ vs) before all g c calls v w h pc lo b plain are hb e has post =
         let q : pc + suc (suc (more_size ps)) ≡ pc + 1 + 1 + more_size ps = omega arith in
-        turned m {lo1 = suc (suc lo)} (omega arith) (printing m {lo = suc lo} {hi = 1} PrintSpace (32 ∷ []) has.0.0 (λ heap. refl)
-        (value_printed t v (numbers (c ∷ calls)) words (temp (slots_of m.program c.func) h) (pc + 1) lo 0 b _ plain.0 are.0 has.1.0.0 stands
-        (more_follows ps vs (before ++ v ∷ []) all g c calls w words (h + 1) (pc + 1 + 1) lo b plain.1 are.1 (one_more before v h 1 hb (plain_value t v plain.0 are.0)) (e ∙ sym (append_assoc before (v ∷ []) vs)) has.1.1 good (place_is m q post))))
+        turned m {lo1 = suc (suc lo)} (omega arith) (printing m {lo = suc lo} {hi = 1} PrintSpace (32 ∷ []) has.0.0 (λ u k. (refl, k))
+        (value_printed t y (temp (slots_of m.program c.func) h) (pc + 1) lo 0 b _ plain.0 are.0 has.1.0.0 (held_next v w c calls before all t (piece_types ps) y vs h plain.0 are.0 hb e)
+        (more_follows ps vs (before ++ kept t y) all g c calls v w (h + 1) (pc + 1 + 1) lo b plain.1 are.1 (one_more before t y h 1 hb (sym (plain_one t plain.0))) (e ∙ more_kept before t (piece_types ps) y vs are.0) has.1.1 (place_is m q post))))
 
     -- a line
-    pub line_follows : (ps : List Piece) (vs before all : List Value) (g : Go) (c : Frame) (calls : List Frame) (w : World) (words : List ℕ) (h pc lo b : ℕ) → AllPlain (piece_types ps) → AreOf (piece_types ps) vs → wide_of before ≡ h → all ≡ before ++ vs → Standing m.code c.fn pc (show_line (slots_of m.program c.func) ps h)
-        → Good m (hold c all ∷ calls) w words → At m (numbers (c ∷ calls)) lo 0 b (g w) (pc + shown_size true ps) words w → At m (numbers (c ∷ calls)) lo 0 b (Meaning.emit_line (texts strings ps vs) g w) pc words w
-    line_follows [] vs before all g c calls w words h pc lo b plain are hb e has good post =
-        turned m {lo1 = suc lo} (omega arith) (printing m {lo = lo} {hi = 0} PrintLine (10 ∷ []) has.0.0 (λ heap. refl) post)
-    line_follows (text number ∷ ps) vs before all g c calls w words h pc lo b plain are hb e has good post =
+    pub line_follows : (ps : List Piece) (vs : List Value) (before all : List Kept) (g : Go) (c : Frame) (calls : List Frame) (v : View) (w : World) (h pc lo b : ℕ) → AllPlain (piece_types ps) → AreOf (piece_types ps) vs → length before ≡ h → all ≡ before ++ all_kept (piece_types ps) vs → Standing m.code c.fn pc (show_line (slots_of m.program c.func) ps h)
+        → At m lo 0 b v (g w) (Stands m v w (hold c all ∷ calls)) (pc + shown_size true ps) → At m lo 0 b v (Meaning.emit_line (texts strings ps vs) g w) (Stands m v w (hold c all ∷ calls)) pc
+    line_follows [] vs before all g c calls v w h pc lo b plain are hb e has post =
+        turned m {lo1 = suc lo} (omega arith) (printing m {lo = lo} {hi = 0} PrintLine (10 ∷ []) has.0.0 (λ u k. (refl, k)) post)
+    line_follows (text number ∷ ps) vs before all g c calls v w h pc lo b plain are hb e has post =
         let q : pc + suc (more_size ps) ≡ pc + 1 + more_size ps = omega arith in
-        turned m {lo1 = suc lo} (omega arith) (text_printed number (numbers (c ∷ calls)) words pc lo 0 b _ has.0.0
-        (more_follows ps vs before all g c calls w words h (pc + 1) lo b plain are hb e has.1 good (place_is m q post)))
-    line_follows (shown t x ∷ ps) [] before all g c calls w words h pc lo b plain are hb e has good post = absurd are
-    line_follows (shown t x ∷ ps) (v ∷ vs) before all g c calls w words h pc lo b plain are hb e has good post =
-        let stands = held_word m c calls w words before vs v h hb (plain_value t v plain.0 are.0) (subst (λ l. Good m (hold c l ∷ calls) w words) e good) in
+        turned m {lo1 = suc lo} (omega arith) (text_printed number pc lo 0 b _ has.0.0
+        (more_follows ps vs before all g c calls v w h (pc + 1) lo b plain are hb e has.1 (place_is m q post)))
+    line_follows (shown t x ∷ ps) [] before all g c calls v w h pc lo b plain are hb e has post = absurd are
+    line_follows (shown t x ∷ ps) (y ∷ vs) before all g c calls v w h pc lo b plain are hb e has post =
         let q : pc + suc (more_size ps) ≡ pc + 1 + more_size ps = omega arith in
-        turned m {lo1 = suc lo} (omega arith) (value_printed t v (numbers (c ∷ calls)) words (temp (slots_of m.program c.func) h) pc lo 0 b _ plain.0 are.0 has.0.0 stands
-        (more_follows ps vs (before ++ v ∷ []) all g c calls w words (h + 1) (pc + 1) lo b plain.1 are.1 (one_more before v h 1 hb (plain_value t v plain.0 are.0)) (e ∙ sym (append_assoc before (v ∷ []) vs)) has.1 good (place_is m q post)))
+        turned m {lo1 = suc lo} (omega arith) (value_printed t y (temp (slots_of m.program c.func) h) pc lo 0 b _ plain.0 are.0 has.0.0 (held_next v w c calls before all t (piece_types ps) y vs h plain.0 are.0 hb e)
+        (more_follows ps vs (before ++ kept t y) all g c calls v w (h + 1) (pc + 1) lo b plain.1 are.1 (one_more before t y h 1 hb (sym (plain_one t plain.0))) (e ∙ more_kept before t (piece_types ps) y vs are.0) has.1 (place_is m q post)))
 
     -- without spaces and a newline
-    pub plain_follows : (ps : List Piece) (vs before all : List Value) (g : Go) (c : Frame) (calls : List Frame) (w : World) (words : List ℕ) (h pc lo b : ℕ) → AllPlain (piece_types ps) → AreOf (piece_types ps) vs → wide_of before ≡ h → all ≡ before ++ vs → Standing m.code c.fn pc (show_plain (slots_of m.program c.func) ps h)
-        → Good m (hold c all ∷ calls) w words → At m (numbers (c ∷ calls)) lo 0 b (g w) (pc + shown_size false ps) words w → At m (numbers (c ∷ calls)) lo 0 b (Meaning.emit_plain (texts strings ps vs) g w) pc words w
-    plain_follows [] vs before all g c calls w words h pc lo b plain are hb e has good post = place_is m (let q : pc + 0 ≡ pc = omega arith in q) post
-    plain_follows (text number ∷ ps) vs before all g c calls w words h pc lo b plain are hb e has good post =
+    pub plain_follows : (ps : List Piece) (vs : List Value) (before all : List Kept) (g : Go) (c : Frame) (calls : List Frame) (v : View) (w : World) (h pc lo b : ℕ) → AllPlain (piece_types ps) → AreOf (piece_types ps) vs → length before ≡ h → all ≡ before ++ all_kept (piece_types ps) vs → Standing m.code c.fn pc (show_plain (slots_of m.program c.func) ps h)
+        → At m lo 0 b v (g w) (Stands m v w (hold c all ∷ calls)) (pc + shown_size false ps) → At m lo 0 b v (Meaning.emit_plain (texts strings ps vs) g w) (Stands m v w (hold c all ∷ calls)) pc
+    plain_follows [] vs before all g c calls v w h pc lo b plain are hb e has post = place_is m (let q : pc + 0 ≡ pc = omega arith in q) post
+    plain_follows (text number ∷ ps) vs before all g c calls v w h pc lo b plain are hb e has post =
         let q : pc + suc (length ps) ≡ pc + 1 + length ps = omega arith in
-        turned m {lo1 = suc lo} (omega arith) (text_printed number (numbers (c ∷ calls)) words pc lo 0 b _ has.0.0
-        (plain_follows ps vs before all g c calls w words h (pc + 1) lo b plain are hb e has.1 good (place_is m q post)))
-    plain_follows (shown t x ∷ ps) [] before all g c calls w words h pc lo b plain are hb e has good post = absurd are
-    plain_follows (shown t x ∷ ps) (v ∷ vs) before all g c calls w words h pc lo b plain are hb e has good post =
-        let stands = held_word m c calls w words before vs v h hb (plain_value t v plain.0 are.0) (subst (λ l. Good m (hold c l ∷ calls) w words) e good) in
+        turned m {lo1 = suc lo} (omega arith) (text_printed number pc lo 0 b _ has.0.0
+        (plain_follows ps vs before all g c calls v w h (pc + 1) lo b plain are hb e has.1 (place_is m q post)))
+    plain_follows (shown t x ∷ ps) [] before all g c calls v w h pc lo b plain are hb e has post = absurd are
+    plain_follows (shown t x ∷ ps) (y ∷ vs) before all g c calls v w h pc lo b plain are hb e has post =
         let q : pc + suc (length ps) ≡ pc + 1 + length ps = omega arith in
-        turned m {lo1 = suc lo} (omega arith) (value_printed t v (numbers (c ∷ calls)) words (temp (slots_of m.program c.func) h) pc lo 0 b _ plain.0 are.0 has.0.0 stands
-        (plain_follows ps vs (before ++ v ∷ []) all g c calls w words (h + 1) (pc + 1) lo b plain.1 are.1 (one_more before v h 1 hb (plain_value t v plain.0 are.0)) (e ∙ sym (append_assoc before (v ∷ []) vs)) has.1 good (place_is m q post)))
+        turned m {lo1 = suc lo} (omega arith) (value_printed t y (temp (slots_of m.program c.func) h) pc lo 0 b _ plain.0 are.0 has.0.0 (held_next v w c calls before all t (piece_types ps) y vs h plain.0 are.0 hb e)
+        (plain_follows ps vs (before ++ kept t y) all g c calls v w (h + 1) (pc + 1) lo b plain.1 are.1 (one_more before t y h 1 hb (sym (plain_one t plain.0))) (e ∙ more_kept before t (piece_types ps) y vs are.0) has.1 (place_is m q post)))

@@ -1,6 +1,6 @@
 -- The machine follows statements with others inside, where it follows those.
-use Rattle.std.proofs.Common.{◌≡◌, inl, inr, ℕ, suc, ◌+◌, ◌-◌, ◌≤◌, ℤ, pos, true, false, List, [], ◌∷◌, ◌++◌, length, Option, Some, None, refl, sym, ap, ◌∙◌, subst, arith, append_assoc, append-nil, length-append}
-use Rattle.std.specs.Prelude.{slice_set, ◌&&◌}
+use Rattle.std.proofs.Common.{◌≡◌, inl, ℕ, suc, ◌+◌, ◌-◌, ◌≤◌, ℤ, pos, true, false, List, [], ◌∷◌, ◌++◌, length, Option, Some, None, refl, sym, ap, ◌∙◌, subst, arith, append_assoc, append-nil, length-append}
+use Rattle.std.specs.Prelude.{◌&&◌}
 use Rattle.typed_syntax.specs.Value.{Value, int, IsOf}
 use Rattle.typed_syntax.specs.Syntax.{Ex, Left, St, Sts, blank, new, to, over_int, if_stmt, for_stmt, range, done, next, argument_words}
 use Rattle.typed_syntax.specs.Form.{TestFits, births, births_all, new_sites, scope_behind, scope_after, breaks, breaks_all, ends, ends_all}
@@ -14,41 +14,45 @@ use Rattle.isa.specs.declared.instr.Instr.TheVariants.{Const, Bin, Jump, JumpZer
 use Rattle.program_code.specs.Code.{temp, slots_of, lefts_above, ready_code, lefts_sized, ex_code, test_code, lefts_code, renew_code, st_code, sts_code, size, test_size, lefts_size, renew_size, st_size, sts_size}
 use Rattle.program_code.proofs.Sizes.{length_code, length_test, length_ready, length_lefts, lefts_sum, length_renew, length_st, length_sts}
 use Rattle.program_code.proofs.Rooms.{key_alone, key_room, lefts_room, lefts_others}
-use Rattle.simulated_code.proofs.Frames.{Built, Frame, hold, during, numbers, Good, narrowed, wide_of}
-use Rattle.simulated_code.proofs.Changes.{one_more, temp_set, fewer, held_word}
-use Rattle.simulated_code.proofs.Places.{Standing, front, back, Panics, At, later, place_is, turned, seen, stepped}
+use Rattle.state_relation.specs.Views.{View}
+use Rattle.state_relation.specs.Relation.{sets, Kept, Frame, hold, during}
+use Rattle.state_relation.proofs.Changes.{narrowed}
+use Rattle.state_relation.proofs.Built.{Built}
+use Rattle.state_relation.proofs.Rules.{At, Stands, later, place_is, given, turned, seen, stepped}
+use Rattle.state_relation.proofs.Values.{kept, all_kept, one_more, temp_set, fewer}
+use Rattle.simulated_code.proofs.Standing.{Standing, front, back, Panics}
+use Rattle.simulated_code.proofs.Temps.{last_word}
 use Rattle.simulated_code.proofs.Moves.{CallsFollow}
 use Rattle.simulated_code.proofs.ConditionsFollow.{branches}
 use Rattle.simulated_code.proofs.EvaluationsFollow.{ev_follows}
-use Rattle.simulated_code.proofs.LeftsFollow.{together, first_landing, land_one, lefts_follow, renew_follows}
+use Rattle.simulated_code.proofs.LeftsFollow.{together, left_types, first_landing, land_one, lefts_follow, renew_follows}
 use Rattle.simulated_code.proofs.ReadyFollows.{ready_follow}
 use Rattle.simulated_code.proofs.Scopes.{behind_has, after_has, both_go_on, one_goes_on, first_or, second_or, tested, test_goes_on, break_goes_on, scoped_more, scoped_behind, scoped_after}
 use Rattle.simulated_code.proofs.Counting.{remains_first}
 use Rattle.simulated_code.proofs.RoundsFollow.{counting, counting_is, two_held, Tests, Round, rounds_follow, CountRound, counted_follow}
 use Rattle.simulated_code.proofs.Leading.{After, after_later, leads_later, leads_alone, inside, leads_inside, leads_holding, Followed, AllFollowed}
 use Rattle.typed_syntax.specs.Types.{bools, ints}
-use Rattle.program_code.proofs.Wide.{plain_value}
 
-module _ (m : Built) (around : Setting) (types : around.types ≡ m.program.types) (inputs : around.items ≡ m.items) (callees : Calls) (n : ℕ) (cf : CallsFollow m callees n) (c : Frame) (calls : List Frame) where
+module _ (m : Built) (around : Setting) (types : around.types ≡ m.program.types) (inputs : around.items ≡ m.items) (sites_are : around.sites ≡ m.program.sites) (callees : Calls) (n : ℕ) (cf : CallsFollow m callees n) (c : Frame) (calls : List Frame) where
   pub done_follows : AllFollowed m c calls around callees n done
-  done_follows ws env k w words held h looped outer scope q out again pc lo b le hh has fit enough reaches sc leads g post =
-      seen m _ (place_is m (let e : pc + 0 ≡ pc = omega arith in e) (post refl env w words g))
+  done_follows ws env k v w held h looped outer scope q out again pc lo b le hh has fit enough reaches sc leads post =
+      seen m _ (place_is m (let e : pc + 0 ≡ pc = omega arith in e) (post refl env w v))
 
   pub next_follows : (x : St) (xs : Sts) → Followed m c calls around callees n x → AllFollowed m c calls around callees n xs → AllFollowed m c calls around callees n (next x xs)
-  next_follows x xs one rest ws env k w words held h looped outer scope q out again pc lo b le hh has fit enough reaches sc leads g post =
+  next_follows x xs one rest ws env k v w held h looped outer scope q out again pc lo b le hh has fit enough reaches sc leads post =
       let s = slots_of m.program c.func in let fs = m.program in let a = argument_words c.func in let named = c.func.named in
       let lx = st_size fs a named x in let lxs = sts_size fs a named xs in
       let cx = st_code fs a named s x h out again pc in let cxs = sts_code fs a named s xs h out again (pc + lx) in
-      seen m _ (one ws env _ w words held h looped outer scope q out again pc lo b le hh (front m.code c.fn pc cx cxs has) fit.0 (omega arith) (omega arith) sc
-      (leads_later m c calls {lo = lo} {b = b} (omega arith) (omega arith) (first_or (breaks x) (breaks_all xs)) (λ v i. i) leads) g
-      (λ goes env1 w1 words1 g1. rest ws env1 k w1 words1 held h looped outer (scope_after scope x) (q + births x) out again (pc + lx) lo b le hh (back m.code c.fn pc lx cx cxs (length_st fs a named s x h out again pc) has) fit.1 (omega arith) (omega arith)
+      seen m _ (one ws env _ v w held h looped outer scope q out again pc lo b le hh (front m.code c.fn pc cx cxs has) fit.0 (omega arith) (omega arith) sc
+      (leads_later m c calls {lo = lo} {b = b} (omega arith) (omega arith) (first_or (breaks x) (breaks_all xs)) (λ u i. i) leads)
+      (λ goes env1 w1 v1. rest ws env1 k v1 w1 held h looped outer (scope_after scope x) (q + births x) out again (pc + lx) lo b le hh (back m.code c.fn pc lx cx cxs (length_st fs a named s x h out again pc) has) fit.1 (omega arith) (omega arith)
       (scoped_after m.program c.func c.func.results (length named) looped (c.func.first + c.func.count) scope q x fit.0 sc)
-      (leads_later m c calls {lo = lo} {b = b} (omega arith) (omega arith) (second_or (breaks x) (breaks_all xs)) (after_has scope x) leads) g1
-      (λ go_on env2 w2 words2 g2. place_is m (let e : pc + (lx + lxs) ≡ pc + lx + lxs = omega arith in e)
-      (post (both_go_on x xs goes go_on) env2 w2 words2 (narrowed m (hold c held) env2 (scope_after scope x) scope calls w2 words2 (after_has scope x) g2)))))
+      (leads_later m c calls {lo = lo} {b = b} (omega arith) (omega arith) (second_or (breaks x) (breaks_all xs)) (after_has scope x) leads)
+      (λ go_on env2 w2 v2. place_is m (let e : pc + (lx + lxs) ≡ pc + lx + lxs = omega arith in e)
+      (given m (λ u g. narrowed m.program m.max v2 w2 (hold c held) calls u env2 (scope_after scope x) scope (after_has scope x) g) (post (both_go_on x xs goes go_on) env2 w2 v2)))))
 
   pub choose_follows : (e : Ex) (x y : Sts) → AllFollowed m c calls around callees n x → AllFollowed m c calls around callees n y → Followed m c calls around callees n (if_stmt e x y)
-  choose_follows e x y first second ws env k w words held h looped outer scope q out again pc lo b le hh has fit enough reaches sc leads g post =
+  choose_follows e x y first second ws env k v w held h looped outer scope q out again pc lo b le hh has fit enough reaches sc leads post =
       let s = slots_of m.program c.func in let fs = m.program in let a = argument_words c.func in let named = c.func.named in
       let lx = sts_size fs a named x in let ly = sts_size fs a named y in
       let p1 = pc + size fs e + 1 in let p2 = p1 + lx + 1 in
@@ -57,39 +61,39 @@ module _ (m : Built) (around : Setting) (types : around.types ≡ m.program.type
       let has1 = back m.code c.fn pc (size fs e) ce (z ∷ (cx ++ j ∷ cy)) (length_code fs s e h pc) has in
       let has3 = back m.code c.fn p1 lx cx (j ∷ cy) (length_sts fs a named s x h out again p1) has1.1 in
       let q2 : pc + (size fs e + 1 + lx + 1 + ly) ≡ p2 + ly = omega arith in
-      ev_follows m around types inputs callees n cf e bools (during c env scope held) calls ws _ w words h pc lo b le hh leads.panics (front m.code c.fn pc ce (z ∷ (cx ++ j ∷ cy)) has) fit.0 (omega arith) (omega arith) g (λ v w1 words1 iv g1.
-      let g2 = fewer m (during c env scope held) calls w1 words1 held (v ∷ []) g1 in
+      ev_follows m around types inputs callees n cf e bools (during c env scope held) calls ws _ v w h pc lo b le hh leads.panics (front m.code c.fn pc ce (z ∷ (cx ++ j ∷ cy)) has) fit.0 (omega arith) (omega arith) (λ r w1 v1 ir.
       turned m {lo1 = suc (suc lo)} (omega arith)
-      (branches m v (Meaning.exec_all around callees (suc n) x ws env k) (Meaning.exec_all around callees (suc n) y ws env k) w1 (numbers (c ∷ calls)) words1 (temp s h) p2 (pc + size fs e) (suc lo) b has1.0.0 iv (held_word m (during c env scope held) calls w1 words1 held [] v h hh (plain_value bools v (inr refl) iv) g1)
-      (first ws env k w1 words1 held h looped outer scope q out again p1 (suc lo) b le hh (front m.code c.fn p1 cx (j ∷ cy) has1.1) fit.1 (omega arith) (omega arith) sc
-      (leads_later m c calls {lo = lo} {b = b} (omega arith) (omega arith) (first_or (breaks_all x) (breaks_all y)) (λ v i. i) leads) g2
-      (λ goes env1 w2 words2 g3. later m {lo = suc lo} {hi = 1} {b = b} (omega arith) (omega arith) (omega arith) (stepped m {lo = lo} {hi = 0} j has3.0.0 (λ heap. refl)
-      (place_is m q2 (post (ap (λ t. t && ends_all y) goes) env1 w2 words2 g3)))))
+      (branches m r (Meaning.exec_all around callees (suc n) x ws env k) (Meaning.exec_all around callees (suc n) y ws env k) v1 w1 (Stands m v1 w1 (during c env scope (held ++ kept bools r) ∷ calls)) (Stands m v1 w1 (during c env scope held ∷ calls)) (temp s h) p2 (pc + size fs e) (suc lo) b has1.0.0 ir
+      (λ u g. (last_word m v1 w1 (during c env scope held) calls u held bools r h hh refl g, fewer m v1 w1 (during c env scope held) calls u held (kept bools r) g))
+      (first ws env k v1 w1 held h looped outer scope q out again p1 (suc lo) b le hh (front m.code c.fn p1 cx (j ∷ cy) has1.1) fit.1 (omega arith) (omega arith) sc
+      (leads_later m c calls {lo = lo} {b = b} (omega arith) (omega arith) (first_or (breaks_all x) (breaks_all y)) (λ u i. i) leads)
+      (λ goes env1 w2 v2. later m {lo = suc lo} {hi = 1} {b = b} (omega arith) (omega arith) (omega arith) (stepped m {lo = lo} {hi = 0} j (λ u. u) has3.0.0 (λ u g. (refl, refl, g))
+      (place_is m q2 (post (ap (λ t. t && ends_all y) goes) env1 w2 v2)))))
       (later m {lo = lo} {hi = 0} {b = b} (omega arith) (omega arith) (omega arith)
-      (second ws env k w1 words1 held h looped outer scope (q + births_all x) out again p2 lo b le hh has3.1 fit.2 (omega arith) (omega arith) (scoped_more c.func scope q (births_all x) sc)
-      (leads_later m c calls {lo = lo} {b = b} (omega arith) (omega arith) (second_or (breaks_all x) (breaks_all y)) (λ v i. i) leads) g2
-      (λ goes env1 w2 words2 g3. place_is m q2 (post (one_goes_on (ends_all x) (ends_all y) goes) env1 w2 words2 g3))))))
+      (second ws env k v1 w1 held h looped outer scope (q + births_all x) out again p2 lo b le hh has3.1 fit.2 (omega arith) (omega arith) (scoped_more c.func scope q (births_all x) sc)
+      (leads_later m c calls {lo = lo} {b = b} (omega arith) (omega arith) (second_or (breaks_all x) (breaks_all y)) (λ u i. i) leads)
+      (λ goes env1 w2 v2. place_is m q2 (post (one_goes_on (ends_all x) (ends_all y) goes) env1 w2 v2))))))
 
   -- a condition, where there is one
-  test_follows : (test : Option Ex) (ws : Ways) (held : List Value) (scope : List ℕ) (h pc behind lo b : ℕ) → b ≤ suc n → wide_of held ≡ h → Panics ws → Standing m.code c.fn pc (test_code m.program (slots_of m.program c.func) test h pc behind)
+  test_follows : (test : Option Ex) (ws : Ways) (held : List Kept) (scope : List ℕ) (h pc behind lo b : ℕ) → b ≤ suc n → length held ≡ h → Panics ws → Standing m.code c.fn pc (test_code m.program (slots_of m.program c.func) test h pc behind)
       → TestFits m.program scope test → h + test_need m.program test ≤ temps_of m.program c.func → test_reach m.program test ≤ outgoing_of m.program c.func
       → Tests m c calls held scope (tested test) pc (pc + test_size m.program test) behind lo b (Meaning.test_of around callees test ws)
-  test_follows None ws held scope h pc behind lo b le hh stops has fit enough reaches env g1 g2 w words d db good on off = place_is m (let e : pc + 0 ≡ pc = omega arith in e) (on w words good)
-  test_follows (Some e) ws held scope h pc behind lo b le hh stops has fit enough reaches env g1 g2 w words d db good on off =
+  test_follows None ws held scope h pc behind lo b le hh stops has fit enough reaches env g1 g2 v w d db on off = place_is m (let e : pc + 0 ≡ pc = omega arith in e) (on w v)
+  test_follows (Some e) ws held scope h pc behind lo b le hh stops has fit enough reaches env g1 g2 v w d db on off =
       let s = slots_of m.program c.func in let fs = m.program in
       let ce = ex_code fs s e h pc in let z = JumpZero (temp s h) behind in
       let has1 = back m.code c.fn pc (size fs e) ce (z ∷ []) (length_code fs s e h pc) has in
-      ev_follows m around types inputs callees n cf e bools (during c env scope held) calls ws _ w words h pc lo d (omega arith) hh stops (front m.code c.fn pc ce (z ∷ []) has) fit enough reaches good (λ v w1 words1 iv good1.
-      let good2 = fewer m (during c env scope held) calls w1 words1 held (v ∷ []) good1 in
+      ev_follows m around types inputs callees n cf e bools (during c env scope held) calls ws _ v w h pc lo d (omega arith) hh stops (front m.code c.fn pc ce (z ∷ []) has) fit enough reaches (λ r w1 v1 ir.
       turned m {lo1 = suc lo} (omega arith)
-      (branches m v g1 g2 w1 (numbers (c ∷ calls)) words1 (temp s h) behind (pc + size fs e) lo d has1.0.0 iv (held_word m (during c env scope held) calls w1 words1 held [] v h hh (plain_value bools v (inr refl) iv) good1)
-      (place_is m (let q : pc + (size fs e + 1) ≡ pc + size fs e + 1 = omega arith in q) (on w1 words1 good2)) (off refl w1 words1 good2)))
+      (branches m r g1 g2 v1 w1 (Stands m v1 w1 (during c env scope (held ++ kept bools r) ∷ calls)) (Stands m v1 w1 (during c env scope held ∷ calls)) (temp s h) behind (pc + size fs e) lo d has1.0.0 ir
+      (λ u g. (last_word m v1 w1 (during c env scope held) calls u held bools r h hh refl g, fewer m v1 w1 (during c env scope held) calls u held (kept bools r) g))
+      (place_is m (let q : pc + (size fs e + 1) ≡ pc + size fs e + 1 = omega arith in q) (on w1 v1)) (off refl w1 v1)))
 
   pub loop_follows : (sites : List ℕ) (test : Option Ex) (after body : Sts) → AllFollowed m c calls around callees n after → AllFollowed m c calls around callees n body → Followed m c calls around callees n (for_stmt sites test after body)
-  loop_follows sites test after body afters bodies ws env k w words held h looped outer scope q out again pc lo b le hh has fit enough reaches sc leads g post =
+  loop_follows sites test after body afters bodies ws env k v w held h looped outer scope q out again pc lo b le hh has fit enough reaches sc leads post =
       rounds_follow m c calls held scope pc here last behind (tested test) has_j.0.0 (Meaning.test_of around callees test ws) body_of (Meaning.outside k) lo b
       (test_follows test ws held scope h pc behind lo b le hh leads.panics (front m.code c.fn pc ct (cb ++ (cr ++ (cp ++ Jump pc ∷ []))) has) fit.1 (omega arith) (omega arith))
-      round (λ t. behind_loop (test_goes_on sites test after body t)) (suc n) b (omega arith) le (length w.store - length sites) env w words g
+      round (λ t. behind_loop (test_goes_on sites test after body t)) (suc n) b (omega arith) le (length w.store - length sites) env w v
     where
       here : ℕ
       here = pc + test_size m.program test
@@ -131,33 +135,33 @@ module _ (m : Built) (around : Setting) (types : around.types ≡ m.program.type
       has_j = back m.code c.fn then_post (sts_size m.program (argument_words c.func) c.func.named after) cp (Jump pc ∷ []) (length_sts m.program (argument_words c.func) c.func.named (slots_of m.program c.func) after h behind turn then_post) has_p
 
       next_of : ℕ → (ℕ → Env → Go) → Env → Go
-      next_of v j = Meaning.to_next around v sites (Meaning.exec_all around callees (suc n) after) ws j
+      next_of u j = Meaning.to_next around u sites (Meaning.exec_all around callees (suc n) after) ws j
 
       body_of : ℕ → Env → (ℕ → Env → Go) → Go
-      body_of v env1 j = Meaning.exec_all around callees (suc n) body (inside m c calls ws (Meaning.outside k v) (next_of v j)) env1 (next_of v j)
+      body_of u env1 j = Meaning.exec_all around callees (suc n) body (inside m c calls ws (Meaning.outside k u) (next_of u j)) env1 (next_of u j)
 
-      behind_loop : ends (for_stmt sites test after body) ≡ false → (v : ℕ) → After m c calls held scope behind lo b (Meaning.outside k v)
-      behind_loop goes v env1 w1 words1 g1 =
-          seen m _ (place_is m (let e : pc + (test_size m.program test + sts_size m.program (argument_words c.func) c.func.named body + renew_size sites + sts_size m.program (argument_words c.func) c.func.named after + 1) ≡ behind = omega arith in e) (post goes env1 w1 words1 g1))
+      behind_loop : ends (for_stmt sites test after body) ≡ false → (u : ℕ) → After m c calls held scope behind lo b (Meaning.outside k u)
+      behind_loop goes u env1 w1 v1 =
+          seen m _ (place_is m (let e : pc + (test_size m.program test + sts_size m.program (argument_words c.func) c.func.named body + renew_size sites + sts_size m.program (argument_words c.func) c.func.named after + 1) ≡ behind = omega arith in e) (post goes env1 w1 v1))
 
-      next_follow : (v : ℕ) (j : ℕ → Env → Go) (d : ℕ) → d ≤ b → ((v1 : ℕ) → After m c calls held scope last lo d (j v1)) → After m c calls held scope turn lo d (next_of v j)
-      next_follow v j d db go env1 w1 words1 g1 =
-          seen m _ (renew_follows m around sites c env1 scope held calls ws.call _ w1 words1 h turn lo d hh (omega arith) fit.0 (front m.code c.fn turn cr (cp ++ Jump pc ∷ []) has_r) g1 (λ env2 w2 words2 g2.
-          afters ws env2 (j (length w1.store)) w2 words2 held h false scope scope q behind turn then_post lo d (omega arith) hh (front m.code c.fn then_post cp (Jump pc ∷ []) has_p) fit.2 (omega arith) (omega arith) sc
-          (leads_alone m c calls (leads_later m c calls {lo = lo} {b = b} (omega arith) db (λ e. e) (λ v i. i) leads)) g2 (λ goes. go (length w1.store))))
+      next_follow : (u : ℕ) (j : ℕ → Env → Go) (d : ℕ) → d ≤ b → ((u1 : ℕ) → After m c calls held scope last lo d (j u1)) → After m c calls held scope turn lo d (next_of u j)
+      next_follow u j d db go env1 w1 v1 =
+          seen m _ (renew_follows m around sites_are sites c env1 scope held calls ws.call _ v1 w1 h turn lo d hh (omega arith) fit.0 (front m.code c.fn turn cr (cp ++ Jump pc ∷ []) has_r) (λ env2 w2 v2.
+          afters ws env2 (j (length w1.store)) v2 w2 held h false scope scope q behind turn then_post lo d (omega arith) hh (front m.code c.fn then_post cp (Jump pc ∷ []) has_p) fit.2 (omega arith) (omega arith) sc
+          (leads_alone m c calls (leads_later m c calls {lo = lo} {b = b} (omega arith) db (λ e. e) (λ u i. i) leads)) (λ goes. go (length w1.store))))
 
       round : Round m c calls held scope here last lo b body_of
-      round v j d db go env1 w1 words1 g1 =
-          bodies (inside m c calls ws (Meaning.outside k v) (next_of v j)) env1 (next_of v j) w1 words1 held h true scope scope (q + births_all after) behind turn here lo d (omega arith) hh
+      round u j d db go env1 w1 v1 =
+          bodies (inside m c calls ws (Meaning.outside k u) (next_of u j)) env1 (next_of u j) v1 w1 held h true scope scope (q + births_all after) behind turn here lo d (omega arith) hh
           (front m.code c.fn here cb (cr ++ (cp ++ Jump pc ∷ [])) has_b) fit.3 (omega arith) (omega arith) (scoped_more c.func scope q (births_all after) sc)
-          (leads_inside m c calls (Meaning.outside k v) (next_of v j) db (λ u i. i) leads
-          (λ e. after_later m c calls held scope behind lo lo b d (Meaning.outside k v) (omega arith) db (behind_loop (break_goes_on sites test after body e) v)) (next_follow v j d db go)) g1 (λ goes. next_follow v j d db go)
+          (leads_inside m c calls (Meaning.outside k u) (next_of u j) db (λ z i. i) leads
+          (λ e. after_later m c calls held scope behind lo lo b d (Meaning.outside k u) (omega arith) db (behind_loop (break_goes_on sites test after body e) u)) (next_follow u j d db go)) (λ goes. next_follow u j d db go)
 
   pub range_follows : (e : Ex) (key value : Left) (body : Sts) → AllFollowed m c calls around callees n body → Followed m c calls around callees n (range (over_int e) key value body)
-  range_follows e key (new site) body bodies ws env k w words held h looped outer scope q out again pc lo b le hh has fit enough reaches sc leads g post = absurd fit
-  range_follows e key (to p) body bodies ws env k w words held h looped outer scope q out again pc lo b le hh has fit enough reaches sc leads g post = absurd fit
-  range_follows e key blank body bodies ws env k w words held h looped outer scope q out again pc lo b le hh has fit enough reaches sc leads g post =
-      ev_follows m around types inputs callees n cf e ints (during c env scope held) calls ws _ w words h pc lo b le hh leads.panics (front m.code c.fn pc ce rest has) fit.0 (omega arith) (omega arith) g over
+  range_follows e key (new site) body bodies ws env k v w held h looped outer scope q out again pc lo b le hh has fit enough reaches sc leads post = absurd fit
+  range_follows e key (to p) body bodies ws env k v w held h looped outer scope q out again pc lo b le hh has fit enough reaches sc leads post = absurd fit
+  range_follows e key blank body bodies ws env k v w held h looped outer scope q out again pc lo b le hh has fit enough reaches sc leads post =
+      ev_follows m around types inputs callees n cf e ints (during c env scope held) calls ws _ v w h pc lo b le hh leads.panics (front m.code c.fn pc ce rest has) fit.0 (omega arith) (omega arith) over
     where
       test : ℕ
       test = pc + size m.program e + 1
@@ -228,9 +232,9 @@ module _ (m : Built) (around : Setting) (types : around.types ≡ m.program.type
       has_c : Standing m.code c.fn turn counts
       has_c = back m.code c.fn here (sts_size m.program (argument_words c.func) c.func.named body) cb counts (length_sts m.program (argument_words c.func) c.func.named (slots_of m.program c.func) body (h + 2) behind turn here) has_b
 
-      behind_loop : (v : ℕ) → After m c calls held scope behind lo b (Meaning.outside k v)
-      behind_loop v env1 w1 words1 g1 =
-          seen m _ (place_is m (let q1 : pc + (size m.program e + 1 + 2 + lefts_sized m.program (key ∷ []) (lefts_size (key ∷ [])) + sts_size m.program (argument_words c.func) c.func.named body + 3) ≡ behind = omega arith in q1) (post refl env1 w1 words1 g1))
+      behind_loop : (u : ℕ) → After m c calls held scope behind lo b (Meaning.outside k u)
+      behind_loop u env1 w1 v1 =
+          seen m _ (place_is m (let q1 : pc + (size m.program e + 1 + 2 + lefts_sized m.program (key ∷ []) (lefts_size (key ∷ [])) + sts_size m.program (argument_words c.func) c.func.named body + 3) ≡ behind = omega arith in q1) (post refl env1 w1 v1))
 
       -- while the number is held
       ways : ℤ → Ways
@@ -239,35 +243,42 @@ module _ (m : Built) (around : Setting) (types : around.types ≡ m.program.type
       body_of : ℤ → ℕ → ℕ → Env → (ℕ → Env → Go) → Go
       body_of z = Meaning.index_round around callees (suc n) key (Meaning.exec_all around callees (suc n) body) (ways z) (Meaning.outside k)
 
-      next_follow : (z : ℤ) (i v : ℕ) (j : ℕ → Env → Go) (d : ℕ) → ((v1 : ℕ) → After m c calls (counting z held i) scope turn lo d (j v1)) → After m c calls (counting z held i) scope turn lo d (Meaning.to_next_count v j)
-      next_follow z i v j d go env1 w1 words1 g1 = seen m _ (go (length w1.store) env1 w1 words1 g1)
+      next_follow : (z : ℤ) (i u : ℕ) (j : ℕ → Env → Go) (d : ℕ) → ((u1 : ℕ) → After m c calls (counting z held i) scope turn lo d (j u1)) → After m c calls (counting z held i) scope turn lo d (Meaning.to_next_count u j)
+      next_follow z i u j d go env1 w1 v1 = seen m _ (go (length w1.store) env1 w1 v1)
 
       round : (z : ℤ) → CountRound m c calls z held h scope test turn behind hh (omega arith) has_rest.1.0.0 has_rest.1.1.0.0 has_c.0.0 has_c.1.0.0 has_c.1.1.0.0 lo b (body_of z)
-      round z i v j d db go env1 w1 words1 g1 =
-          let first = Meaning.outside k v in let then_next = Meaning.to_next_count v j in
+      round z i u j d db go env1 w1 v1 =
+          let first = Meaning.outside k u in let then_next = Meaning.to_next_count u j in
           let all = counting z held i in let more = scope_behind scope (key ∷ []) in
-          let next = next_follow z i v j d go in
+          let next = next_follow z i u j d go in
           let cb0 = during c env1 scope all in let land = λ (env2 : Env). Meaning.in_loop (Meaning.exec_all around callees (suc n) body) (ways z) first then_next env2 in
           let room = key_room m.program (temps_of m.program c.func) h key (omega arith) in
           place_is m (let q1 : test + 2 ≡ test + 1 + 1 = omega arith in q1)
-          (ready_follow m around types inputs callees n cf (key ∷ []) (ints ∷ []) (left_far key) (sts_reach m.program body) q (c.func.first + c.func.count) cb0 calls (ways z) (λ xs ws1. Meaning.land around (first_landing xs) (int (pos i)) (ways z) env1 land) w1 words1 (h + 2) (test + 2) lo d (omega arith) (two_held z held h i hh) leads.panics
-          (front m.code c.fn (test + 2) cr ck (front m.code c.fn (test + 2) cl (cb ++ counts) has_l)) fit.1 (omega arith) (omega (arith, key_alone m.program key (sts_reach m.program body))) g1 (λ uss ws1 w2 words2 stops1 given there g2.
+          (ready_follow m around types inputs callees n cf (key ∷ []) (ints ∷ []) (left_far key) (sts_reach m.program body) q (c.func.first + c.func.count) cb0 calls (ways z) (λ xs ws1. Meaning.land around (first_landing xs) (int (pos i)) (ways z) env1 land) v1 w1 (h + 2) (test + 2) lo d (omega arith) (two_held z held h i hh) leads.panics
+          (front m.code c.fn (test + 2) cr ck (front m.code c.fn (test + 2) cl (cb ++ counts) has_l)) fit.1 (omega arith) (omega (arith, key_alone m.program key (sts_reach m.program body))) (λ uss ws1 w2 v2 stops1 gives there.
+          let ops = all_kept (left_types (key ∷ [])) (together uss) in
           let inside_room = lefts_room m.program (temps_of m.program c.func) (h + 2) (left_far key) (key ∷ []) (omega arith) in
-          subst (λ t. At m (numbers (c ∷ calls)) lo 0 d t start words2 w2) (sym (land_one around key uss env1 env1 (int (pos i)) (ways z) land w2 given))
-          (lefts_follow m around (key ∷ []) (ints ∷ []) (int (pos i) ∷ []) (held ++ int z ∷ []) (together uss) (all ++ together uss) uss all [] c env1 env1 scope scope calls (ways z) land w2 words2 q (q + new_sites (key ∷ [])) above (h + 2) (h + 1) start lo d leads.panics (tt, tt)
-          (one_more held (int z) h 1 hh refl) (ap (λ l. l ++ together uss) (sym (counting_is z held i)) ∙ append_assoc (held ++ int z ∷ []) (int (pos i) ∷ []) (together uss)) given (two_held z held h i hh) (ap (λ l. all ++ l) (sym (append-nil (together uss)))) there has_k fit.1 (omega arith) sc.from (omega arith) (λ u i. (i, refl, inl (sc.below u i))) g2 (λ env2 w3 words3 g3.
+          subst (λ t. At m lo 0 d v2 t (Stands m v2 w2 (during c env1 scope (all ++ ops) ∷ calls)) start) (sym (land_one around key uss env1 env1 (int (pos i)) (ways z) land w2 gives))
+          (lefts_follow m around sites_are (key ∷ []) (ints ∷ []) (int (pos i) ∷ []) (held ++ kept ints (int z)) ops (all ++ ops) uss all [] c env1 env1 scope scope calls (ways z) land v2 w2 q (q + new_sites (key ∷ [])) above (h + 2) (h + 1) start lo d leads.panics (tt, tt)
+          (one_more held ints (int z) h 1 hh refl) (ap (λ l. l ++ ops) (sym (counting_is z held i)) ∙ append_assoc (held ++ kept ints (int z)) (kept ints (int (pos i))) ops) gives (two_held z held h i hh) (ap (λ l. all ++ l) (sym (append-nil ops))) there has_k fit.1 (omega arith) sc.from (omega arith) (λ x y. (y, refl, inl (sc.below x y))) (λ env2 w3 v3.
           place_is m (sym begins)
-          (bodies (inside m c calls (ways z) first then_next) env2 then_next w3 words3 all (h + 2) true scope more (q + new_sites (key ∷ [])) behind turn here lo d (omega arith) (two_held z held h i hh)
+          (given m (λ x g. fewer m v3 w3 (during c env2 more all) calls x all ops g)
+          (bodies (inside m c calls (ways z) first then_next) env2 then_next v3 w3 all (h + 2) true scope more (q + new_sites (key ∷ [])) behind turn here lo d (omega arith) (two_held z held h i hh)
           (front m.code c.fn here cb counts has_b) fit.2 (omega arith) (let others = lefts_others m.program (sts_reach m.program body) (key ∷ []) in omega (arith, key_alone m.program key (sts_reach m.program body))) (scoped_behind m.program c.func scope q (c.func.first + c.func.count) (ints ∷ []) (key ∷ []) fit.1 sc)
           (leads_inside m c calls first then_next db (behind_has scope (key ∷ [])) (leads_holding m c calls (int z) leads)
-          (λ t env3 w4 words4 g4. after_later m c calls held scope behind lo lo b d first (omega arith) db (behind_loop v) env3 w4 words4 (fewer m (during c env3 scope held) calls w4 words4 held (int z ∷ int (pos i) ∷ []) g4)) next) (fewer m (during c env2 more all) calls w3 words3 all (together uss) g3)
-          (λ goes env3 w4 words4 g4. next env3 w4 words4 (narrowed m (hold c all) env3 more scope calls w4 words4 (behind_has scope (key ∷ [])) g4)))))))
+          (λ t env3 w4 v4. given m (λ x g. fewer m v4 w4 (during c env3 scope held) calls x held (kept ints (int z) ++ kept ints (int (pos i))) g) (after_later m c calls held scope behind lo lo b d first (omega arith) db (behind_loop u) env3 w4 v4)) next)
+          (λ goes env3 w4 v4. given m (λ x g. narrowed m.program m.max v4 w4 (hold c all) calls x env3 more scope (behind_has scope (key ∷ [])) g) (next env3 w4 v4))))))))
 
-      over : (v : Value) (w1 : World) (words1 : List ℕ) → IsOf ints v → Good m (during c env scope (held ++ v ∷ []) ∷ calls) w1 words1
-          → At m (numbers (c ∷ calls)) lo 0 b (Meaning.turn (Meaning.births (λ v1. Meaning.counted (suc n) 0 (Meaning.count_of v) (Meaning.index_round around callees (suc n) key (Meaning.exec_all around callees (suc n) body) (Meaning.holding ws v) (Meaning.outside k)) (Meaning.outside k) v1 env)) w1) (pc + size m.program e) words1 w1
-      over (int z) w1 words1 iv g1 =
-          turned m {lo1 = suc lo} (omega arith) (stepped m {lo = lo} {hi = 0} (Const index_slot 0) has_rest.0.0 (λ heap. refl)
-          (counted_follow m c calls z held h scope test turn behind hh (omega arith) has_rest.1.0.0 has_rest.1.1.0.0 has_c.0.0 has_c.1.0.0 has_c.1.1.0.0 (body_of z) (Meaning.outside k) lo b (round z) behind_loop (suc n) 0 (Meaning.count_of (int z)) b (omega arith) le (remains_first z) (length w1.store) env w1 (slice_set words1 index_slot 0)
-          (subst (λ l. Good m (during c env scope l ∷ calls) w1 (slice_set words1 index_slot 0)) (counting_is z held 0)
-          (temp_set m (during c env scope (held ++ int z ∷ [])) calls w1 words1 (h + 1) 0 (int (pos 0)) (one_more held (int z) h 1 hh refl) (omega arith) refl (refl, omega arith) g1))))
-      over v w1 words1 iv g1 = absurd iv
+      over : (x : Value) (w1 : World) (v1 : View) → IsOf ints x
+          → At m lo 0 b v1 (Meaning.turn (Meaning.births (λ u1. Meaning.counted (suc n) 0 (Meaning.count_of x) (Meaning.index_round around callees (suc n) key (Meaning.exec_all around callees (suc n) body) (Meaning.holding ws x) (Meaning.outside k)) (Meaning.outside k) u1 env)) w1) (Stands m v1 w1 (during c env scope (held ++ kept ints x) ∷ calls)) (pc + size m.program e)
+      over (int z) w1 v1 ix =
+          turned m {lo1 = suc lo} (omega arith)
+          (stepped m {lo = lo} {hi = 0} {G1 = Stands m v1 w1 (during c env scope (counting z held 0) ∷ calls)} (Const index_slot 0) (λ u. sets u index_slot 0) has_rest.0.0
+          (λ u g. (
+            refl,
+            refl,
+            subst (λ l. Stands m v1 w1 (during c env scope l ∷ calls) (sets u index_slot 0)) (counting_is z held 0)
+                (temp_set m v1 w1 (during c env scope (held ++ kept ints (int z))) calls u (h + 1) 0 ints (int (pos 0)) (one_more held ints (int z) h 1 hh refl) (omega arith) tt refl (refl, omega arith) g),
+          ))
+          (counted_follow m c calls z held h scope test turn behind hh (omega arith) has_rest.1.0.0 has_rest.1.1.0.0 has_c.0.0 has_c.1.0.0 has_c.1.1.0.0 (body_of z) (Meaning.outside k) lo b (round z) behind_loop (suc n) 0 (Meaning.count_of (int z)) b (omega arith) le (remains_first z) (length w1.store) env w1 v1))
+      over x w1 v1 ix = absurd ix

@@ -20,14 +20,14 @@ use Rattle.isa.specs.Bin.{bit_of, word_of, divided, shifted, of_numbers, bin_of,
 use Rattle.isa.specs.declared.instr.BinFault.{BinFault}
 use Rattle.isa.specs.declared.instr.UnOp.TheVariants as WordOne
 use Rattle.machine.specs.Machine.{panic_of}
-use Rattle.simulated_code.specs.Correct.{same_fault}
+use Rattle.state_relation.specs.Alike.{same_fault}
 use Rattle.program_code.specs.Code.{operation}
-use Rattle.simulated_code.proofs.Frames.{Stands}
+use Rattle.state_relation.proofs.Words.{Spells}
 use Rattle.program_code.proofs.Wide.{takes_one}
 
 -- what an operator gives, and what the machine's gives: a value of a type that stands as a word, or the same fault
 abbrev pub Agree : TypeTree → Result Value Fault → Result ℕ BinFault → Type 0
-Agree t (Ok v) (Ok word) = IsOf t v × Stands v word
+Agree t (Ok v) (Ok word) = IsOf t v × Spells v word
 Agree t (Err f) (Err g) = (strings : List (List ℕ)) → same_fault strings f (panic_of g)
 Agree t a b = ⊥
 
@@ -40,10 +40,10 @@ word_small (pos n) f = omega (arith, f.sfits)
 word_small (negsuc n) f = omega arith
 
 -- a number of 64 bits is its word's number
-pub number_stands : (z : ℤ) → FitsSigned w64 z → Stands (int z) (word_of z)
+pub number_stands : (z : ℤ) → FitsSigned w64 z → Spells (int z) (word_of z)
 number_stands z f = (to_z-of_z w64 z f, word_small z f)
 
-signed_twice : (x : ℕ) → Stands (int (cast_signed w64 x)) (word_of (cast_signed w64 x))
+signed_twice : (x : ℕ) → Spells (int (cast_signed w64 x)) (word_of (cast_signed w64 x))
 signed_twice x = number_stands (cast_signed w64 x) (read_small x)
 
 rem_small : (a d : ℤ) → FitsSigned w64 a → FitsSigned w64 (int_rem a d)
@@ -70,12 +70,12 @@ number_of t z e = subst (λ u. IsOf u (int z)) (sym e) tt
 pub truth_of : (t : TypeTree) (b : Bool) → t ≡ bools → IsOf t (bool b)
 truth_of t b e = subst (λ u. IsOf u (bool b)) (sym e) tt
 
-divides : (t : TypeTree) (f : ℤ → ℤ → ℤ) (a d : ℤ) → t ≡ ints → Stands (int (f a d)) (word_of (f a d)) → Agree t (divide f a d) (divided f a d)
+divides : (t : TypeTree) (f : ℤ → ℤ → ℤ) (a d : ℤ) → t ≡ ints → Spells (int (f a d)) (word_of (f a d)) → Agree t (divide f a d) (divided f a d)
 divides t f a (pos zero) is e = λ strings. tt
 divides t f a (pos (suc n)) is e = (number_of t (f a (pos (suc n))) is, e)
 divides t f a (negsuc n) is e = (number_of t (f a (negsuc n)) is, e)
 
-shifts : (t : TypeTree) (f : ℤ → ℕ → ℤ) (a d : ℤ) → t ≡ ints → ((n : ℕ) → Stands (int (f a n)) (word_of (f a n))) → Agree t (shift f a d) (shifted f a d)
+shifts : (t : TypeTree) (f : ℤ → ℕ → ℤ) (a d : ℤ) → t ≡ ints → ((n : ℕ) → Spells (int (f a n)) (word_of (f a n))) → Agree t (shift f a d) (shifted f a d)
 shifts t f a (pos n) is e = (number_of t (f a (min n 64)) is, e (min n 64))
 shifts t f a (negsuc n) is e = λ strings. refl
 
@@ -136,8 +136,17 @@ pub no_array : (n : ℕ) (e : TypeTree) → IsPlain (array_of n e) → ⊥
 no_array n t (inl e) = true≢false (sym (ap is_plain e))
 no_array n t (inr e) = true≢false (sym (ap is_plain e))
 
+-- a number or a truth value is spelled by one word
+pub spelled_once : (t : TypeTree) (v : Value) (x y : ℕ) → IsPlain t → IsOf t v → Spells v x → Spells v y → x ≡ y
+spelled_once ints (int a) x y plain is sx sy = signed_once x y sx.1 sy.1 (sx.0 ∙ sym sy.0)
+spelled_once bools (bool b) x y plain is sx sy = sx ∙ sym sy
+spelled_once ints v x y plain is sx sy = absurd is
+spelled_once bools v x y plain is sx sy = absurd is
+spelled_once (struct_of ts) v x y plain is sx sy = absurd (no_struct ts plain)
+spelled_once (array_of n t) v x y plain is sx sy = absurd (no_array n t plain)
+
 -- an operator of the source on numbers or truth values, and that of the machine on their words
-pub agrees : (op : BinOp) (s t : TypeTree) (v u : Value) (x y : ℕ) → IsPlain s → Takes op s t → IsOf s v → IsOf s u → Stands v x → Stands u y → Agree t (binary_of op v u) (bin_of (operation op) x y)
+pub agrees : (op : BinOp) (s t : TypeTree) (v u : Value) (x y : ℕ) → IsPlain s → Takes op s t → IsOf s v → IsOf s u → Spells v x → Spells u y → Agree t (binary_of op v u) (bin_of (operation op) x y)
 agrees op ints t (int a) (int d) x y plain takes is iu sv su =
     subst (λ z. Agree t (of_ints op a d) (of_numbers (operation op) z (cast_signed w64 y))) (sym sv.0)
     (subst (λ z. Agree t (of_ints op a d) (of_numbers (operation op) a z)) (sym su.0) (on_ints op ints t a d takes (subst (λ z. FitsSigned w64 z) sv.0 (read_small x))))
@@ -157,20 +166,20 @@ unary_word Negate x = un_of WordOne.Negate x
 unary_word Complement x = un_of WordOne.Complement x
 unary_word Not x = un_of WordOne.IsZero x
 
-one_number : (op : UnOp) (a : ℤ) (x : ℕ) → TakesOne op ints → Stands (int a) x → IsOf ints (unary_of op (int a)) × Stands (unary_of op (int a)) (unary_word op x)
+one_number : (op : UnOp) (a : ℤ) (x : ℕ) → TakesOne op ints → Spells (int a) x → IsOf ints (unary_of op (int a)) × Spells (unary_of op (int a)) (unary_word op x)
 one_number Plus a x takes s = (tt, s)
-one_number Negate a x takes s = (tt, subst (λ z. Stands (int (int_wrapping_neg w64 z)) (un_of WordOne.Negate x)) s.0 (signed_twice _))
-one_number Complement a x takes s = (tt, subst (λ z. Stands (int (int_bit_not w64 z)) (un_of WordOne.Complement x)) s.0 (signed_twice _))
+one_number Negate a x takes s = (tt, subst (λ z. Spells (int (int_wrapping_neg w64 z)) (un_of WordOne.Negate x)) s.0 (signed_twice _))
+one_number Complement a x takes s = (tt, subst (λ z. Spells (int (int_bit_not w64 z)) (un_of WordOne.Complement x)) s.0 (signed_twice _))
 one_number Not a x takes s = absurd (apart takes)
 
-one_truth : (op : UnOp) (b : Bool) (x : ℕ) → TakesOne op bools → Stands (bool b) x → IsOf bools (unary_of op (bool b)) × Stands (unary_of op (bool b)) (unary_word op x)
+one_truth : (op : UnOp) (b : Bool) (x : ℕ) → TakesOne op bools → Spells (bool b) x → IsOf bools (unary_of op (bool b)) × Spells (unary_of op (bool b)) (unary_word op x)
 one_truth Not true x takes s = (tt, ap (un_of WordOne.IsZero) s)
 one_truth Not false x takes s = (tt, ap (un_of WordOne.IsZero) s)
 one_truth Plus b x takes s = absurd (apart (sym takes))
 one_truth Negate b x takes s = absurd (apart (sym takes))
 one_truth Complement b x takes s = absurd (apart (sym takes))
 
-pub agrees_one : (op : UnOp) (t : TypeTree) (v : Value) (x : ℕ) → TakesOne op t → IsOf t v → Stands v x → IsOf t (unary_of op v) × Stands (unary_of op v) (unary_word op x)
+pub agrees_one : (op : UnOp) (t : TypeTree) (v : Value) (x : ℕ) → TakesOne op t → IsOf t v → Spells v x → IsOf t (unary_of op v) × Spells (unary_of op v) (unary_word op x)
 agrees_one op ints (int a) x takes is s = one_number op a x takes s
 agrees_one op ints v x takes is s = absurd is
 agrees_one op bools (bool b) x takes is s = one_truth op b x takes s

@@ -1,7 +1,8 @@
 -- The machine follows an operator.
-use Rattle.std.proofs.Common.{◌≡◌, ℕ, suc, ◌+◌, List, Some, Result, Ok, Err, refl, sym, ap, subst}
-use Rattle.std.specs.Prelude.{slice_get, slice_index, slice_set}
+use Rattle.std.proofs.Common.{◌≡◌, ℕ, suc, ◌+◌, Some, Result, Ok, Err, refl, ap, ◌∙◌}
+use Rattle.std.specs.Prelude.{slice_get, slice_index}
 use Rattle.typed_syntax.specs.Positions.{Position}
+use Rattle.typed_syntax.specs.Types.{TypeTree}
 use Rattle.typed_syntax.specs.Value.{Value, IsOf}
 use Rattle.typed_syntax.specs.declared.operators.BinOp.{BinOp}
 use Rattle.typed_syntax.specs.declared.operators.UnOp.{UnOp}
@@ -18,32 +19,45 @@ use Rattle.isa.specs.declared.instr.BinFault.{BinFault}
 use Rattle.machine.specs.Machine.{panic_of, puts_or_panics}
 use Rattle.machine.specs.declared.run_state.Ending.TheVariants.{Panic as Panicked}
 use Rattle.program_code.specs.Code.{operation, unary_code}
-use Rattle.simulated_code.proofs.Frames.{Built, Stands}
-use Rattle.simulated_code.proofs.Numbers.{Agree, agrees, unary_word}
-use Rattle.simulated_code.proofs.Places.{Panics, At, stepped, halted}
-use Rattle.typed_syntax.specs.Types.{TypeTree}
+use Rattle.state_relation.specs.Views.{View}
+use Rattle.state_relation.specs.Relation.{Memory, sets}
+use Rattle.state_relation.proofs.Words.{Spells}
+use Rattle.state_relation.proofs.Built.{Built}
+use Rattle.state_relation.proofs.Rules.{state_of, seen_from, does_at, At, knowing, stepped, halts}
+use Rattle.simulated_code.proofs.Numbers.{Agree, agrees, spelled_once, unary_word}
+use Rattle.simulated_code.proofs.Standing.{Panics}
 
 module _ (m : Built) where
   -- on two operands in slots: a slot gets the word of what it gives, or it panics
-  pub operates : (at : Position) (o : BinOp) (s t : TypeTree) (x y : Value) (ws : Ways) (env : Env) (k : Then Value) (w : World) (running : List ℕ) (words : List ℕ) (to left right pc lo hi b : ℕ) → slice_get m.code.instrs pc ≡ Some (Bin (operation o) to left right)
-      → Panics ws → IsPlain s → Takes o s t → IsOf s x → IsOf s y → Stands x (slice_index words left) → Stands y (slice_index words right)
-      → ((v : Value) (word : ℕ) → IsOf t v → Stands v word → At m running lo hi b (k v w) (pc + 1) (slice_set words to word) w)
-      → At m running (suc lo) 1 b (Meaning.or_panic ws env at (binary_of o x y) k w) pc words w
-  operates at o s t x y ws env k w running words to left right pc lo hi b here stops plain takes ix iy sx sy post =
-      go (binary_of o x y) (bin_of (operation o) (slice_index words left) (slice_index words right)) (agrees o s t x y (slice_index words left) (slice_index words right) plain takes ix iy sx sy) refl
+  pub operates : (at : Position) (o : BinOp) (s t : TypeTree) (x y : Value) (ws : Ways) (env : Env) (k : Then Value) (v : View) (w : World) (G : Memory → Type 0) (G1 : Value → Memory → Type 0) (to left right pc lo hi b : ℕ) → slice_get m.code.instrs pc ≡ Some (Bin (operation o) to left right)
+      → Panics ws → IsPlain s → Takes o s t → IsOf s x → IsOf s y → ((u : Memory) → G u → Spells x (slice_index u.words left) × Spells y (slice_index u.words right))
+      → ((r : Value) (word : ℕ) (u : Memory) → IsOf t r → Spells r word → G u → G1 r (sets u to word)) → ((r : Value) → IsOf t r → At m lo hi b v (k r w) (G1 r) (pc + 1))
+      → At m (suc lo) 1 b v (Meaning.or_panic ws env at (binary_of o x y) k w) G pc
+  operates at o s t x y ws env k v w G G1 to left right pc lo hi b here stops plain takes ix iy stands keeps post =
+      knowing m (λ u0 g0.
+      let a = slice_index u0.words left in let c = slice_index u0.words right in let r = stands u0 g0 in
+      go a c r.0 r.1 (binary_of o x y) (bin_of (operation o) a c) (agrees o s t x y a c plain takes ix iy r.0 r.1) refl)
     where
-      go : (r : Result Value Fault) (q : Result ℕ BinFault) → Agree t r q → bin_of (operation o) (slice_index words left) (slice_index words right) ≡ q → At m running (suc lo) 1 b (Meaning.or_panic ws env at r k w) pc words w
-      go (Ok v) (Ok word) agree e =
-          stepped m {lo = lo} {hi = hi} (Bin (operation o) to left right) here (λ heap. ap (puts_or_panics (record { pc = pc; words = words; reads = w.reads; heap = heap }) to) e) (post v word agree.0 agree.1)
-      go (Err f) (Err g) agree e =
-          subst (λ (u : Trace). At m running (suc lo) 1 b u pc words w) (sym (stops at f env w))
-          (halted m {lo = lo} (Bin (operation o) to left right) (Panic at f) (Panicked (panic_of g)) here (agree m.program.strings) (λ heap. ap (puts_or_panics (record { pc = pc; words = words; reads = w.reads; heap = heap }) to) e))
-      go (Ok v) (Err g) agree e = absurd agree
-      go (Err f) (Ok word) agree e = absurd agree
+      -- the operands' words are the same in each store
+      does : (a c : ℕ) → Spells x a → Spells y c → (u : Memory) → G u → does_at m (Bin (operation o) to left right) pc u ≡ puts_or_panics (state_of m pc u) to (bin_of (operation o) a c)
+      does a c sa sc u g =
+          let r = stands u g in
+          ap (λ i. puts_or_panics (state_of m pc u) to (bin_of (operation o) i (slice_index u.words right))) (spelled_once s x (slice_index u.words left) a plain ix r.0 sa)
+          ∙ ap (λ i. puts_or_panics (state_of m pc u) to (bin_of (operation o) a i)) (spelled_once s y (slice_index u.words right) c plain iy r.1 sc)
+
+      go : (a c : ℕ) → Spells x a → Spells y c → (r : Result Value Fault) (q : Result ℕ BinFault) → Agree t r q → bin_of (operation o) a c ≡ q → At m (suc lo) 1 b v (Meaning.or_panic ws env at r k w) G pc
+      go a c sa sc (Ok r) (Ok word) agree e =
+          stepped m {lo = lo} {hi = hi} (Bin (operation o) to left right) (λ u. sets u to word) here
+          (λ u g. (does a c sa sc u g ∙ ap (puts_or_panics (state_of m pc u) to) e, refl, keeps r word u agree.0 agree.1 g)) (post r agree.0)
+      go a c sa sc (Err f) (Err h) agree e =
+          halts m {lo = lo} (Bin (operation o) to left right) (Panic at f) (Panicked (panic_of h)) here (agree m.program.strings) (λ r. ap (seen_from m v r) (stops at f env w))
+          (λ u g. does a c sa sc u g ∙ ap (puts_or_panics (state_of m pc u) to) e)
+      go a c sa sc (Ok r) (Err h) agree e = absurd agree
+      go a c sa sc (Err f) (Ok word) agree e = absurd agree
 
   -- on the operand in a slot
-  pub operates_one : {running : List ℕ} {lo hi b : ℕ} {t : Trace} {pc : ℕ} {words : List ℕ} {w : World} (o : UnOp) (a : ℕ) → slice_get m.code.instrs pc ≡ Some (unary_code o a) → At m running lo hi b t (pc + 1) (slice_set words a (unary_word o (slice_index words a))) w → At m running (suc lo) 1 b t pc words w
-  operates_one {lo = lo} {hi = hi} Plus a here post = stepped m {lo = lo} {hi = hi} (Move a a) here (λ heap. refl) post
-  operates_one {lo = lo} {hi = hi} Negate a here post = stepped m {lo = lo} {hi = hi} (Un WordOne.Negate a a) here (λ heap. refl) post
-  operates_one {lo = lo} {hi = hi} Complement a here post = stepped m {lo = lo} {hi = hi} (Un WordOne.Complement a a) here (λ heap. refl) post
-  operates_one {lo = lo} {hi = hi} Not a here post = stepped m {lo = lo} {hi = hi} (Un WordOne.IsZero a a) here (λ heap. refl) post
+  pub operates_one : {lo hi b : ℕ} {v : View} {t : Trace} {G G1 : Memory → Type 0} {pc : ℕ} (o : UnOp) (a : ℕ) → slice_get m.code.instrs pc ≡ Some (unary_code o a) → ((u : Memory) → G u → G1 (sets u a (unary_word o (slice_index u.words a)))) → At m lo hi b v t G1 (pc + 1) → At m (suc lo) 1 b v t G pc
+  operates_one {lo = lo} {hi = hi} Plus a here keeps post = stepped m {lo = lo} {hi = hi} (Move a a) (λ u. sets u a (slice_index u.words a)) here (λ u g. (refl, refl, keeps u g)) post
+  operates_one {lo = lo} {hi = hi} Negate a here keeps post = stepped m {lo = lo} {hi = hi} (Un WordOne.Negate a a) (λ u. sets u a (unary_word Negate (slice_index u.words a))) here (λ u g. (refl, refl, keeps u g)) post
+  operates_one {lo = lo} {hi = hi} Complement a here keeps post = stepped m {lo = lo} {hi = hi} (Un WordOne.Complement a a) (λ u. sets u a (unary_word Complement (slice_index u.words a))) here (λ u g. (refl, refl, keeps u g)) post
+  operates_one {lo = lo} {hi = hi} Not a here keeps post = stepped m {lo = lo} {hi = hi} (Un WordOne.IsZero a a) (λ u. sets u a (unary_word Not (slice_index u.words a))) here (λ u g. (refl, refl, keeps u g)) post

@@ -1,33 +1,42 @@
 -- Places whose operands are held: their addresses, the values that they have, and the values that they get.
-use Rattle.std.proofs.Common.{◌≡◌, ℕ, zero, suc, ◌+◌, ◌*◌, ◌<◌, ◌≤◌, ◌^◌, List, [], ◌∷◌, ◌++◌, length, Some, refl, sym, ap, ◌∙◌, subst, arith, append_assoc, append-nil, get_or}
-use Rattle.std.specs.Prelude.{slice_get, slice_index, slice_set}
+use Rattle.std.proofs.Common.{◌≡◌, inl, inr, ℕ, zero, suc, ◌+◌, ◌-◌, ◌*◌, ◌%◌, ◌^◌, ◌<◌, ◌≤◌, ℤ, pos, negsuc, Bool, true, false, List, [], ◌∷◌, ◌++◌, length, Some, None, Ok, Err, refl, sym, ap, ◌∙◌, subst, arith, append_assoc, append-nil, length-append, mod-eq_of_lt}
+use Rattle.std.specs.Prelude.{slice_get, slice_index, nat_lt, if◌then◌else◌}
 use Rattle.std.specs.Int.{w64, cast_signed}
+use Rattle.std.proofs.lemmas.Bool.{ltb-true, lt-ltb}
+use Rattle.typed_syntax.specs.Positions.{Position}
 use Rattle.typed_syntax.specs.Types.{TypeTree, ints, array_of, width, part_count, part_type, part_offset}
 use Rattle.typed_syntax.specs.Value.{Value, int, bool, composite, IsOf}
 use Rattle.typed_syntax.specs.Paths.{at_path, Leads, type_at, offset}
-use Rattle.typed_syntax.specs.Words.{contents}
-use Rattle.value_laws.proofs.Parts.{count_of, leads_to, at_is, within, element, joined_types, part_words as words_of_part}
+use Rattle.typed_syntax.specs.Words.{number, contents}
+use Rattle.value_laws.proofs.Parts.{leads_to, at_is, within, element, joined_types}
 use Rattle.typed_syntax.specs.Syntax.{Pl, Steps, local, global, here as itself, inner, at_index, path_of, global_type, site_type}
-use Rattle.typed_syntax.specs.Form.{InScope, PlFits, StepsLead}
-use Rattle.typed_syntax.specs.Frames.{steps_far, far, temps_of}
-use Rattle.meaning.specs.Trace.{World, Trace}
-use Rattle.meaning.specs.Store.{value_of, written}
+use Rattle.typed_syntax.specs.Form.{AreOf, InScope, PlFits, StepsLead}
+use Rattle.typed_syntax.specs.Frames.{steps_far, far, outgoing_of, temps_of}
+use Rattle.meaning.specs.Trace.{World, Cell, Trace, Panic, index_out_of_range}
+use Rattle.meaning.specs.Store.{no_cell, value_of, written}
 use Rattle.meaning.specs.Meaning
-use Rattle.meaning.specs.Meaning.{Env, Then, Ways, Aim, Spot, Step, fixed, worked, variable}
-use Rattle.isa.specs.declared.instr.Instr.TheVariants.{Const, Load, Store}
+use Rattle.meaning.specs.Meaning.{Env, Then, Ways, Aim, Spot, Step, fixed, worked, variable, element_of}
+use Rattle.simulation.specs.Steps.{Goes}
+use Rattle.isa.specs.declared.instr.Instr.TheVariants.{Const, Load, Store, Address, Index}
 use Rattle.heap_bump.specs.Words.{first_address}
-use Rattle.machine.specs.Machine.{put_words, words_at, address_of}
+use Rattle.machine.specs.declared.run_state.Ending.TheVariants.{Panic as Panicked}
+use Rattle.machine.specs.declared.run_state.Panic.TheVariants.{IndexOutOfRange}
+use Rattle.machine.specs.Machine.{words_at, address_of, element_address, element_at, puts as puts_word}
 use Rattle.program_code.specs.Code.{temp, site_slot, slots_of, moves, index_code, steps_address, index_count, steps_address_size, address_code, address_size, far_offset, fetch_part, fetch_code, land_part, land_code}
-use Rattle.simulated_code.proofs.Distances.{read_length, read_index}
-use Rattle.program_code.proofs.Sites.{site_within}
-use Rattle.simulated_code.proofs.Frames.{Built, Frame, hold, numbers, Good, depth, nothing, wide_of, stands_same}
-use Rattle.simulated_code.proofs.Changes.{one_more, temp_set, fewer, held_word, held_room, held_stand, site_word, value_put, written_site, written_global}
-use Rattle.simulated_code.proofs.Places.{Standing, Panics, At, later, place_is, turned, stepped, words_moved}
-use Rattle.simulated_code.proofs.Globals.{written_kept, loaded, stored}
-use Rattle.simulated_code.proofs.Moves.{held_none}
-use Rattle.simulated_code.proofs.Numbers.{signed_once}
-use Rattle.simulated_code.proofs.PackageWords.{words_before, all_words, words_within, type_is}
-use Rattle.simulated_code.proofs.Addresses.{slot_address, address_small, origin_is, stack_loaded, stack_stored, addressed, index_follows}
+use Rattle.state_relation.specs.Leaves.{leaves}
+use Rattle.state_relation.specs.Views.{Place, on_stack, on_heap, View}
+use Rattle.state_relation.specs.Relation.{Memory, sets, puts, part_place, set_place, Kept, word, address, Frame, hold, address_in, word_at, depth, words_before, Stand, StandsKept, Reaches, NamedAt}
+use Rattle.state_relation.proofs.Lists.{some_same, get_is, append_cases, append_old, append_new, one_item}
+use Rattle.state_relation.proofs.Distances.{word_slot}
+use Rattle.state_relation.proofs.PackageWords.{type_is}
+use Rattle.state_relation.proofs.Relation.{site_inside}
+use Rattle.state_relation.proofs.Changes.{kept_word, good_kept, good_set, home_value}
+use Rattle.state_relation.proofs.Births.{home_write}
+use Rattle.state_relation.proofs.Built.{Built}
+use Rattle.state_relation.proofs.Rules.{state_of, does_at, seen_from, range_of, At, Stands, knowing, later, place_is, given, turned, stepped, halts, moved_by}
+use Rattle.state_relation.proofs.Values.{kept, all_kept, value_put, fewer, held_none, held_stand, held_room}
+use Rattle.state_relation.proofs.Touches.{reached_by, address_small, loaded, stored}
+use Rattle.simulated_code.proofs.Standing.{Standing, Panics}
 
 -- ---- places without their operands
 
@@ -57,6 +66,19 @@ steps_with (at_index at e n steps) (v ∷ vs) = worked at v n ∷ steps_with ste
 -- the operands of a place, and where it leads
 abbrev pub aimed : Env → Pl → List Value → Aim
 aimed env q vs = record { base = variable (variable_of env q); steps = steps_with (steps_of q) vs }
+
+-- their types
+abbrev pub index_types : Steps → List TypeTree
+index_types itself = []
+index_types (inner i steps) = index_types steps
+index_types (at_index at e n steps) = ints ∷ index_types steps
+
+pub operands_are : (steps : Steps) (vs : List Value) → Operands steps vs → AreOf (index_types steps) vs
+operands_are itself [] ops = tt
+operands_are itself (v ∷ vs) ops = absurd ops
+operands_are (inner i steps) vs ops = operands_are steps vs ops
+operands_are (at_index at e n steps) [] ops = absurd ops
+operands_are (at_index at e n steps) (v ∷ vs) ops = (ops.0, operands_are steps vs ops.1)
 
 -- the types on the way, whatever the indices are
 abbrev pub Shaped : TypeTree → Steps → TypeTree → Type 0
@@ -96,297 +118,446 @@ module _ (m : Built) where
   located scope t (local site steps) fit = (fit.0, steps_shape scope (site_type m.program site) t steps fit.1, fit.2)
   located scope t (global g steps) fit = (fit.0, steps_shape scope (global_type m.program g) t steps fit.1, fit.2)
 
-  -- ---- where a place is, by its indices
+  -- the type of a place's variable
+  abbrev pub own_type : Pl → TypeTree
+  own_type (local site steps) = site_type m.program site
+  own_type (global g steps) = global_type m.program g
 
-  -- an address as a value that is held, where there is one
-  abbrev pub as_number : ℕ → Value
-  as_number x = int (cast_signed w64 x)
+  -- what its address lacks of the words before the part, where there is one
+  abbrev pub lacks_of : Pl → ℕ
+  lacks_of (local site steps) = far_offset (site_type m.program site) steps
+  lacks_of (global g steps) = offset (global_type m.program g) (path_of steps)
 
-  abbrev pub held_by : (far word : ℕ) → List Value
-  held_by zero word = []
-  held_by (suc n) word = as_number word ∷ []
+  -- the address of a part is held, where there is one
+  abbrev pub held_by : (far : ℕ) → TypeTree → (x : ℕ) → (path : List ℕ) → (lacks : ℕ) → List Kept
+  held_by zero t x path lacks = []
+  held_by (suc n) t x path lacks = address t x path lacks ∷ []
 
-  -- A part of a variable of a site, by the path to it. Where it is reached by an address, that is one of the stack, and what it
-  -- lacks of the steps from a type on is added to it.
-  module _ (c : Frame) (calls : List Frame) (site : ℕ) where
-    abbrev pub PartFrom : (far : ℕ) → TypeTree → Steps → (before path : List ℕ) → (word : ℕ) → Type 0
-    PartFrom zero t steps before path word = path ≡ before ++ path_of steps
-    PartFrom (suc n) t steps before path word =
-        (near : ℕ) × (word ≡ slot_address m (depth m (c ∷ calls)) near) × (near ≤ depth m (c ∷ calls)) × (near + far_offset t steps ≡ site_slot (slots_of m.program c.func) site + offset (site_type m.program site) path)
+  abbrev pub place_held : Env → Pl → TypeTree → List ℕ → List Kept
+  place_held env q t path = held_by (far q) t (variable_of env q) path (lacks_of q)
 
-  -- a part of a package variable, whose address is one of the heap
-  abbrev pub GlobalPart : (g : ℕ) → Steps → (path : List ℕ) → (word : ℕ) → Type 0
-  GlobalPart g steps path word =
-      (near : ℕ) × (word ≡ first_address + near) × (near ≤ all_words m.program)
-      × (near + offset (global_type m.program g) (path_of steps) ≡ words_before m.program g + offset (global_type m.program g) path)
+  -- where a place leads, by its indices; without one it leads there by its steps
+  abbrev pub LeadsTo : TypeTree → Pl → List ℕ → Type 0
+  LeadsTo t q path = Leads (own_type q) path t × (far q ≡ 0 → path ≡ path_of (steps_of q))
 
-  abbrev pub PlaceIn : Frame → List Frame → TypeTree → Pl → (path : List ℕ) → (word : ℕ) → Type 0
-  PlaceIn c calls t (local site steps) path word = Leads (site_type m.program site) path t × PartFrom c calls site (steps_far steps) (site_type m.program site) steps [] path word
-  PlaceIn c calls t (global g steps) path word = Leads (global_type m.program g) path t × GlobalPart g steps path word
+  -- ---- homes
 
-  -- the word of an address that is held
-  pub address_word : (c : Frame) (calls : List Frame) (w : World) (words : List ℕ) (held more : List Value) (word at : ℕ) → wide_of held ≡ at → word < 2 ^ 64 → Good m (hold c ((held ++ as_number word ∷ []) ++ more) ∷ calls) w words → slice_index words (temp (slots_of m.program c.func) at) ≡ word
-  address_word c calls w words held more word at ha small g =
-      let s = held_word m c calls w words held more (as_number word) at ha refl (subst (λ l. Good m (hold c l ∷ calls) w words) (append_assoc held (as_number word ∷ []) more) g) in
-      signed_once (slice_index words (temp (slots_of m.program c.func) at)) word s.1 small s.0
+  -- the home of a variable of a type
+  pub record Home (v : View) (w : World) (x : ℕ) (own : TypeTree) : Type 0 where
+    pub cell : Cell
+    pub there : slice_get w.store x ≡ Some cell
+    pub kind : cell.type ≡ own
+    pub place : Place
+    pub home : v.homes x ≡ Some place
 
-  -- and held again
-  pub address_set : (c : Frame) (calls : List Frame) (w : World) (words : List ℕ) (word at : ℕ) → wide_of c.held ≡ at → at < temps_of m.program c.func → word < 2 ^ 64 → Good m (c ∷ calls) w words → Good m (hold c (c.held ++ as_number word ∷ []) ∷ calls) w (slice_set words (temp (slots_of m.program c.func) at) word)
-  address_set c calls w words word at ha room small g = temp_set m c calls w words at word (as_number word) ha room refl (refl, small) g
+  pub site_home : (c : Frame) (calls : List Frame) (v : View) (w : World) (s : Memory) (site : ℕ) → InScope site c.scope → Stands m v w (c ∷ calls) s → Home v w (c.env site) (site_type m.program site)
+  site_home c calls v w s site i g =
+      let d = depth m.program (c ∷ calls) - site_slot (slots_of m.program c.func) site in
+      let name : NamedAt m.program (c ∷ calls) (c.env site) d (site_type m.program site) = inl (site, i, refl, refl, refl) in
+      let r = g.homed.named (c.env site) d (site_type m.program site) name in
+      record { cell = r.0; there = r.1; kind = r.2; place = on_stack d; home = g.homed.slots (c.env site) d (site_type m.program site) name }
+
+  pub global_home : (c : Frame) (calls : List Frame) (v : View) (w : World) (s : Memory) (q : ℕ) → q < length m.program.globals → Stands m v w (c ∷ calls) s → Home v w q (global_type m.program q)
+  global_home c calls v w s q lt g =
+      let b = g.homed.begun in let r = g.homed.globals q lt (omega arith) in
+      record { cell = r.0; there = r.1; kind = r.2; place = on_heap (words_before m.program q); home = r.3 }
+
+  pub place_home : (scope : List ℕ) (t : TypeTree) (q : Pl) (c : Frame) (calls : List Frame) (v : View) (w : World) (s : Memory) → c.scope ≡ scope → Located scope t q → Stands m v w (c ∷ calls) s → Home v w (variable_of c.env q) (own_type q)
+  place_home scope t (local site steps) c calls v w s e fit g = site_home c calls v w s site (subst (InScope site) (sym e) fit.0) g
+  place_home scope t (global q steps) c calls v w s e fit g = global_home c calls v w s q fit.0 g
+
+  -- what is held last stands for something else
+  pub good_last : (v : View) (w : World) (c : Frame) (calls : List Frame) (s : Memory) (k k1 : Kept) (at : ℕ) → length c.held ≡ at → StandsKept v.homes s.hi w k1 (slice_index s.words (temp (slots_of m.program c.func) at))
+      → Stands m v w (hold c (c.held ++ k ∷ []) ∷ calls) s → Stands m v w (hold c (c.held ++ k1 ∷ []) ∷ calls) s
+  good_last v w c calls s k k1 at ha stands g =
+      let room = g.homed.owned.0.room in
+      good_kept m.program m.max v w (hold c (c.held ++ k ∷ [])) calls s (c.held ++ k1 ∷ []) (omega (arith, length-append c.held (k ∷ []), length-append c.held (k1 ∷ []))) now g
+    where
+      now : (i : ℕ) (j : Kept) → i < temps_of m.program c.func → slice_get (c.held ++ k1 ∷ []) i ≡ Some j → StandsKept v.homes s.hi w j (word_at s.words (depth m.program (c ∷ calls) - (outgoing_of m.program c.func + i)))
+      now i j lt e = elim (append_cases c.held (k1 ∷ []) j i e) [
+        | inl old ↦ g.framed.kept (depth m.program (c ∷ calls) - (outgoing_of m.program c.func + i)) j (inl (i, lt, refl, append_old c.held (k ∷ []) j i old))
+        | inr (n, q, new) ↦
+            let o = one_item k1 j n new in let u = g.sized.used in
+            let there : outgoing_of m.program c.func + at ≡ outgoing_of m.program c.func + i = omega (arith, q, o.0) in
+            subst (λ a. StandsKept v.homes s.hi w a (word_at s.words (depth m.program (c ∷ calls) - (outgoing_of m.program c.func + i)))) o.1
+            (subst (λ a. StandsKept v.homes s.hi w k1 a) (ap (slice_index s.words) there ∙ sym (word_slot s.words (depth m.program (c ∷ calls)) (outgoing_of m.program c.func + i) u (omega arith))) stands)
+      ]
 
   -- ---- the checks of a place, from its operands to its address
 
-  -- of a variable whose words lie from one on among those from an origin on, after the address of the first array
-  module _ (c : Frame) (calls : List Frame) (ws : Ways) (stops : Panics ws) (env : Env) (var : ℕ) (k : Then Spot) (w : World)
-      (origin size : ℕ) (some_origin : 0 < origin) (small : origin + size < 2 ^ 64) (own : TypeTree) (begin : ℕ)
-      (inside : begin + width own ≤ size) (s : TypeTree) (at lo b : ℕ) (ha : wide_of c.held ≡ at) where
-    abbrev address_slot : ℕ
-    address_slot = temp (slots_of m.program c.func) at
+  module _ (c : Frame) (calls : List Frame) (v : View) (w : World) (ws : Ways) (stops : Panics ws) (env : Env) (x : ℕ) (own : TypeTree) (h : Home v w x own) (at lo b : ℕ) (ha : length c.held ≡ at) (room : at < temps_of m.program c.func) where
+    abbrev slot : ℕ
+    slot = temp (slots_of m.program c.func) at
+
+    -- the address of a part is held after all the rest
+    abbrev pub Reached : TypeTree → List ℕ → ℕ → Memory → Type 0
+    Reached t path lacks s = Stands m v w (hold c (c.held ++ address t x path lacks ∷ []) ∷ calls) s
+
+    -- and what it says
+    reaches : (t : TypeTree) (path : List ℕ) (lacks : ℕ) (s : Memory) → Reached t path lacks s → Reaches v.homes s.hi w t x path lacks (slice_index s.words slot)
+    reaches t path lacks s g =
+        let last : slice_get (c.held ++ address t x path lacks ∷ []) at ≡ Some (address t x path lacks) =
+        (let z : at ≡ length c.held + 0 = omega arith in ap (slice_get (c.held ++ address t x path lacks ∷ [])) z ∙ append_new c.held (address t x path lacks ∷ []) 0) in
+        kept_word m.program m.max v w (hold c (c.held ++ address t x path lacks ∷ [])) calls s at (address t x path lacks) last g
+
+    own_is : (t : TypeTree) (path : List ℕ) (lacks u : ℕ) (s : Memory) (r : Reaches v.homes s.hi w t x path lacks u) → r.cell.type ≡ own
+    own_is t path lacks u s r = ap (λ (k : Cell). k.type) (some_same (sym r.there ∙ h.there)) ∙ h.kind
+
+    -- it is one of 64 bits
+    small : (t : TypeTree) (path : List ℕ) (lacks u : ℕ) (s : Memory) → Reached t path lacks s → (r : Reaches v.homes s.hi w t x path lacks u) → address_in s.hi h.place + offset r.cell.type path < 2 ^ 64
+    small t path lacks u s g r = let e = within r.cell.type t path r.leads in address_small m v w (hold c (c.held ++ address t x path lacks ∷ []) ∷ calls) s g x r.cell h.place (offset r.cell.type path) r.there h.home (omega arith)
+
+    -- another address takes its place
+    replaced : (t r : TypeTree) (path path1 : List ℕ) (lacks lacks1 u : ℕ) (s : Memory) → Reaches v.homes s.hi w r x path1 lacks1 u → Reached t path lacks s → Reached r path1 lacks1 (sets s slot u)
+    replaced t r path path1 lacks lacks1 u s there g =
+        good_set m.program m.max v w (hold c c.held) calls s at u (address r x path1 lacks1) ha room there (fewer m v w c calls s c.held (address t x path lacks ∷ []) g)
+
+    module _ (t r : TypeTree) (n : ℕ) (path : List ℕ) (lacks first pc : ℕ) (is : t ≡ array_of n r) (leads : Leads own path t) (here : slice_get m.code.instrs pc ≡ Some (Index slot slot (temp (slots_of m.program c.func) first) n (width r))) where
+      abbrev base_of : Memory → ℕ
+      base_of s = slice_index s.words slot
+
+      -- an element
+      led : (i : ℕ) → i < n → Leads own (path ++ i ∷ []) r
+      led i l = (joined_types own t r path (i ∷ []) leads).leads (element_leads t r n i is l)
+
+      begins : (i : ℕ) → i < n → offset own (path ++ i ∷ []) ≡ offset own path + i * width r
+      begins i l = (joined_types own t r path (i ∷ []) leads).offset ∙ ap (λ y. offset own path + y) (element_offset t r n i is l)
+
+      element_reached : (i : ℕ) → i < n → (s : Memory) → Reached t path lacks s → Reaches v.homes s.hi w r x (path ++ i ∷ []) lacks (base_of s + i * width r)
+      element_reached i l s g =
+          let a = reaches t path lacks s g in let e = own_is t path lacks (base_of s) s a in
+          let off : offset a.cell.type (path ++ i ∷ []) ≡ offset a.cell.type path + i * width r = subst (λ o. offset o (path ++ i ∷ []) ≡ offset o path + i * width r) (sym e) (begins i l) in
+          record {
+            cell = a.cell;
+            there = a.there;
+            leads = subst (λ o. Leads o (path ++ i ∷ []) r) (sym e) (led i l);
+            less = let le = a.less in omega (arith, off);
+            some = let some = a.some in omega arith;
+            at = λ q hq. let f = a.at q hq in omega (arith, f, off);
+          }
+
+      fits : (i : ℕ) → i < n → (s : Memory) → Reached t path lacks s → base_of s + i * width r < 2 ^ 64
+      fits i l s g =
+          let a = element_reached i l s g in let f = a.at h.place h.home in let e = within a.cell.type r (path ++ i ∷ []) a.leads in
+          let top = address_small m v w (hold c (c.held ++ address t x path lacks ∷ []) ∷ calls) s g x a.cell h.place (offset a.cell.type (path ++ i ∷ [])) a.there h.home (omega arith) in
+          omega arith
+
+      does : (z : ℤ) → slice_get c.held first ≡ Some (word ints (number z)) → (s : Memory) → Reached t path lacks s
+          → does_at m (Index slot slot (temp (slots_of m.program c.func) first) n (width r)) pc s ≡ element_at (state_of m pc s) slot z n (element_address (base_of s) z n (width r))
+      does z held s g =
+          let a = reaches t path lacks s g in let f = a.at h.place h.home in let top = small t path lacks (base_of s) s g a in
+          let index = kept_word m.program m.max v w (hold c (c.held ++ address t x path lacks ∷ [])) calls s first (word ints (number z)) (append_old c.held (address t x path lacks ∷ []) (word ints (number z)) first held) g in
+          let read = cast_signed w64 (slice_index s.words (temp (slots_of m.program c.func) first)) in
+          reached_by (base_of s) 0 (base_of s) (λ y. element_at (state_of m pc s) slot read n (element_address y read n (width r))) a.some (omega arith) (omega arith)
+          ∙ ap (λ i. element_at (state_of m pc s) slot i n (element_address (base_of s) i n (width r))) index.0
+
+      -- to an element by an index that is known to be one
+      pub to_element : {owed hi b : ℕ} {rest : Trace} (i : ℕ) → i < n → slice_get c.held first ≡ Some (word ints (number (pos i))) → At m owed hi b v rest (Reached r (path ++ i ∷ []) lacks) (pc + 1) → At m (suc owed) 1 b v rest (Reached t path lacks) pc
+      to_element {owed} {hi} i l held post =
+          stepped m {lo = owed} {hi = hi} (Index slot slot (temp (slots_of m.program c.func) first) n (width r)) (λ s. sets s slot (base_of s + i * width r)) here
+          (λ s g. (
+            does (pos i) held s g ∙ ap (λ y. element_at (state_of m pc s) slot (pos i) n (if y then Some ((base_of s + i * width r) % 2 ^ 64) else None)) (lt-ltb i n l)
+                ∙ ap (λ u. puts_word (state_of m pc s) slot u) (mod-eq_of_lt {n = base_of s + i * width r} {m = 2 ^ 64} (fits i l s g)),
+            refl,
+            replaced t r path (path ++ i ∷ []) lacks lacks (base_of s + i * width r) s (element_reached i l s g) g,
+          )) post
+
+      module _ (p : Position) (k : Then ℕ) (owed : ℕ) (post : (i : ℕ) → i < n → At m owed 0 b v (k i w) (Reached r (path ++ i ∷ []) lacks) (pc + 1)) where
+        fails : (z : ℤ) → slice_get c.held first ≡ Some (word ints (number z)) → ((u : ℕ) → element_address u z n (width r) ≡ None) → At m (suc owed) 1 b v (ws.panicked p (index_out_of_range z (pos n)) env w) (Reached t path lacks) pc
+        fails z held nowhere =
+            halts m (Index slot slot (temp (slots_of m.program c.func) first) n (width r)) (Panic p (index_out_of_range z (pos n))) (Panicked (IndexOutOfRange z (pos n))) here (refl, refl) (λ q. ap (seen_from m v q) (stops p (index_out_of_range z (pos n)) env w))
+            (λ s g. does z held s g ∙ ap (λ o. element_at (state_of m pc s) slot z n o) (nowhere (base_of s)))
+
+        found : (i : ℕ) → slice_get c.held first ≡ Some (word ints (number (pos i))) → (y : Bool) → nat_lt i n ≡ y → At m (suc owed) 1 b v (Meaning.or_panic ws env p (if y then Ok i else Err (index_out_of_range (pos i) (pos n))) k w) (Reached t path lacks) pc
+        found i held true e = let l = ltb-true i n e in to_element {owed = owed} {hi = 0} i l held (post i l)
+        found i held false e = fails (pos i) held (λ u. ap (λ y. if y then Some ((u + i * width r) % 2 ^ 64) else None) e)
+
+        pub index_follows : (z : ℤ) → slice_get c.held first ≡ Some (word ints (number z)) → At m (suc owed) 1 b v (Meaning.or_panic ws env p (element_of z n) k w) (Reached t path lacks) pc
+        index_follows (pos i) held = found i held (nat_lt i n) refl
+        index_follows (negsuc i) held = fails (negsuc i) held (λ u. refl)
+
+    -- without an instruction: to a field, or an element by its number
+    inner_reached : (t : TypeTree) (i : ℕ) (path : List ℕ) (lacks : ℕ) → i < part_count t → Leads own path t → (s : Memory) → Reached t path lacks s → Reached (part_type t i) (path ++ i ∷ []) (lacks + part_offset t i) s
+    inner_reached t i path lacks l leads s g = good_last v w c calls s (address t x path lacks) (address (part_type t i) x (path ++ i ∷ []) (lacks + part_offset t i)) at ha there g
+      where
+        next : (o : TypeTree) → own ≡ o → (offset o (path ++ i ∷ []) ≡ offset o path + (part_offset t i + 0)) × Leads o (path ++ i ∷ []) (part_type t i)
+        next o e = let j = joined_types o t (part_type t i) path (i ∷ []) (subst (λ y. Leads y path t) e leads) in (j.offset, j.leads (l, refl))
+
+        there : Reaches v.homes s.hi w (part_type t i) x (path ++ i ∷ []) (lacks + part_offset t i) (slice_index s.words slot)
+        there =
+            let a = reaches t path lacks s g in let e = own_is t path lacks (slice_index s.words slot) s a in let j = next a.cell.type (sym e) in let off = j.0 in
+            record { cell = a.cell; there = a.there; leads = j.1; less = (let le = a.less in omega (arith, off)); some = a.some; at = λ q hq. (let f = a.at q hq in omega (arith, f, off)) }
 
     abbrev spot_at : List ℕ → Spot
-    spot_at path = record { variable = var; path = path }
+    spot_at path = record { variable = x; path = path }
 
-    indexed : (steps : Steps) (vs gone more : List Value) (t : TypeTree) (path : List ℕ) (first near skipped pc : ℕ) (words : List ℕ) → Shaped t steps s → Operands steps vs → c.held ≡ gone ++ (vs ++ more) → wide_of gone ≡ first → at < temps_of m.program c.func → Leads own path t
-        → near + skipped ≡ begin + offset own path → near ≤ size
+    -- the indices among steps, from an address on
+    pub indexed : (k : Then Spot) (steps : Steps) (vs : List Value) (gone more : List Kept) (t s : TypeTree) (path : List ℕ) (first lacks pc : ℕ) → Shaped t steps s → Operands steps vs → c.held ≡ gone ++ (all_kept (index_types steps) vs ++ more) → length gone ≡ first → Leads own path t
         → Standing m.code c.fn pc (index_code (slots_of m.program c.func) t steps first at)
-        → Good m (hold c (c.held ++ as_number (origin + near) ∷ []) ∷ calls) w words
-        → ((path1 : List ℕ) (near1 : ℕ) (words1 : List ℕ) → Leads own path1 s → near1 ≤ size
-        → near1 + (skipped + offset t (path_of steps)) ≡ begin + offset own path1
-        → Good m (hold c (c.held ++ as_number (origin + near1) ∷ []) ∷ calls) w words1
-        → At m (numbers (c ∷ calls)) (12 + lo) 1 b (k (spot_at path1) w) (pc + index_count steps) words1 w)
-        → At m (numbers (c ∷ calls)) (12 + lo) 0 b (Meaning.settle_steps ws env (steps_with steps vs) var path k w) pc words w
-    indexed itself vs gone more t path first near skipped pc words shape given e hg room leads at_part le has g post =
+        → ((path1 : List ℕ) → Leads own path1 s → At m (12 + lo) 1 b v (k (spot_at path1) w) (Reached s path1 (lacks + offset t (path_of steps))) (pc + index_count steps))
+        → At m (12 + lo) 0 b v (Meaning.settle_steps ws env (steps_with steps vs) x path k w) (Reached t path lacks) pc
+    indexed k itself vs gone more t s path first lacks pc shape ops e hg leads has post =
+        let none : lacks + 0 ≡ lacks = omega arith in let q : pc + 0 ≡ pc = omega arith in
         later m {lo = 12 + lo} {hi = 1} {b = b} (omega arith) (omega arith) (omega arith)
-        (place_is m (let q : pc + 0 ≡ pc = omega arith in q) (post path near words (subst (λ u. Leads own path u) shape leads) le (omega arith) g))
-    indexed (inner i steps) vs gone more t path first near skipped pc words shape given e hg room leads at_part le has g post =
+        (place_is m q (subst (λ n. At m (12 + lo) 1 b v (k (spot_at path) w) (Reached t path n) (pc + 0)) none
+        (subst (λ u. At m (12 + lo) 1 b v (k (spot_at path) w) (Reached u path (lacks + 0)) (pc + 0)) (sym shape) (post path (subst (λ u. Leads own path u) shape leads)))))
+    indexed k (inner i steps) vs gone more t s path first lacks pc shape ops e hg leads has post =
         let next = joined_types own t (part_type t i) path (i ∷ []) leads in
-        let behind : offset own (path ++ i ∷ []) ≡ offset own path + (part_offset t i + 0) = next.offset in
-        indexed steps vs gone more (part_type t i) (path ++ i ∷ []) first near (skipped + part_offset t i) pc words shape.1 given e hg room (next.leads (shape.0, refl)) (omega (arith, behind)) le has g
-        (λ path1 near1 words1 leads1 le1 at_part1 g1. post path1 near1 words1 leads1 le1 (omega (arith, at_part1)) g1)
-    indexed (at_index p e n steps) [] gone more t path first near skipped pc words shape given eq hg room leads at_part le has g post = absurd given
-    indexed (at_index p e n steps) (bool x ∷ vs) gone more t path first near skipped pc words shape given eq hg room leads at_part le has g post = absurd given.0
-    indexed (at_index p e n steps) (composite xs ∷ vs) gone more t path first near skipped pc words shape given eq hg room leads at_part le has g post = absurd given.0
-    indexed (at_index p e n steps) (int z ∷ vs) gone more t path first near skipped pc words (r, is, some, shape) given eq hg room leads at_part le has g post =
-        let old = as_number (origin + near) in let count = width (part_type t 0) in
-        let first_type : part_type t 0 ≡ r = (element_leads t r n 0 is some).1 in let same : count ≡ width r = ap width first_type in
-        let none = first_offset t r n is some in
-        let part = λ (i : ℕ) (l : i < n). joined_types own t r path (i ∷ []) leads in
-        let behind = λ (i : ℕ) (l : i < n). (let q : offset own (path ++ i ∷ []) ≡ offset own path + i * width r = (part i l).offset ∙ ap (λ x. offset own path + x) (element_offset t r n i is l) in q) in
-        let led = λ (i : ℕ) (l : i < n). (let q : Leads own (path ++ i ∷ []) r = (part i l).leads (element_leads t r n i is l) in q) in
-        let scaled = λ (i : ℕ). (let q : i * count ≡ i * width r = ap (λ x. i * x) same in q) in
-        let reached = λ (i : ℕ) (l : i < n). (let q : near + i * count + skipped ≡ begin + offset own (path ++ i ∷ []) =
-        omega (arith, behind i l, scaled i) in q) in
-        let fits = λ (i : ℕ) (l : i < n). (let q : near + i * count ≤ size =
-        (let part_ends = within own r (path ++ i ∷ []) (led i l) in omega (arith, reached i l)) in q) in
-        let beside : c.held ++ old ∷ [] ≡ gone ++ int z ∷ ((vs ++ more) ++ old ∷ []) = ap (λ l. l ++ old ∷ []) eq ∙ append_assoc gone (int z ∷ (vs ++ more)) (old ∷ []) in
-        let stands = held_word m c calls w words gone ((vs ++ more) ++ old ∷ []) (int z) first hg refl (subst (λ l. Good m (hold c l ∷ calls) w words) beside g) in
+        given m (inner_reached t i path lacks shape.0 leads)
+        (indexed k steps vs gone more (part_type t i) s (path ++ i ∷ []) first (lacks + part_offset t i) pc shape.1 ops e hg (next.leads (shape.0, refl)) has (λ path1 leads1.
+        let sum : lacks + (part_offset t i + offset (part_type t i) (path_of steps)) ≡ lacks + part_offset t i + offset (part_type t i) (path_of steps) = omega arith in
+        subst (λ n. At m (12 + lo) 1 b v (k (spot_at path1) w) (Reached s path1 n) (pc + index_count steps)) sum (post path1 leads1)))
+    indexed k (at_index p e n steps) [] gone more t s path first lacks pc shape ops eq hg leads has post = absurd ops
+    indexed k (at_index p e n steps) (bool z ∷ vs) gone more t s path first lacks pc shape ops eq hg leads has post = absurd ops.0
+    indexed k (at_index p e n steps) (composite xs ∷ vs) gone more t s path first lacks pc shape ops eq hg leads has post = absurd ops.0
+    indexed k (at_index p e n steps) (int z ∷ vs) gone more t s path first lacks pc (r, is, some, shape) ops eq hg leads has post =
+        let first_type : part_type t 0 ≡ r = (element_leads t r n 0 is some).1 in let none = first_offset t r n is some in
+        let there = temp (slots_of m.program c.func) first in
+        let held : slice_get c.held first ≡ Some (word ints (number z)) =
+        (let z0 : first ≡ length gone + 0 = omega arith in
+        ap (λ l. slice_get l first) eq ∙ ap (slice_get (gone ++ (word ints (number z) ∷ (all_kept (index_types steps) vs ++ more)))) z0 ∙ append_new gone (word ints (number z) ∷ (all_kept (index_types steps) vs ++ more)) 0) in
         later m {lo = lo} {hi = 0} {b = b} (omega arith) (omega arith) (omega arith)
         (turned m {lo1 = suc (12 + lo)} (omega arith)
-        (index_follows m p ws env (λ i. Meaning.settle_steps ws env (steps_with steps vs) var (path ++ i ∷ []) k) w
-        (numbers (c ∷ calls)) words origin size address_slot (temp (slots_of m.program c.func) first) n count near pc
-        (12 + lo) 0 b some_origin small has.0.0 stops
-        (address_word c calls w words c.held [] (origin + near) at ha (omega arith)
-        (subst (λ l. Good m (hold c l ∷ calls) w words) (sym (append-nil (c.held ++ old ∷ []))) g)) le fits (λ i l.
-        indexed steps vs (gone ++ int z ∷ []) more r (path ++ i ∷ []) (first + 1) (near + i * count) skipped (pc + 1)
-        (slice_set words address_slot (origin + (near + i * count))) shape given.1
-        (eq ∙ sym (append_assoc gone (int z ∷ []) (vs ++ more))) (one_more gone (int z) first 1 hg refl) room (led i l) (reached i l) (fits i l)
+        (index_follows t r n path lacks first pc is leads (subst (λ u. slice_get m.code.instrs pc ≡ Some (Index slot slot there n (width u))) first_type has.0.0)
+        p (λ i. Meaning.settle_steps ws env (steps_with steps vs) x (path ++ i ∷ []) k) (12 + lo) (λ i l.
+        indexed k steps vs (gone ++ word ints (number z) ∷ []) more r s (path ++ i ∷ []) (first + 1) lacks (pc + 1) shape ops.1
+        (eq ∙ sym (append_assoc gone (word ints (number z) ∷ []) (all_kept (index_types steps) vs ++ more))) (omega (arith, length-append gone (word ints (number z) ∷ []), hg)) ((joined_types own t r path (i ∷ []) leads).leads (element_leads t r n i is l))
         (subst (λ u. Standing m.code c.fn (pc + 1) (index_code (slots_of m.program c.func) u steps (first + 1) at)) first_type has.1)
-        (address_set c calls w words (origin + (near + i * count)) at ha room (let f = fits i l in omega arith)
-        (fewer m c calls w words c.held (old ∷ []) g))
-        (λ path1 near1 words1 leads1 le1 at_part1 g1.
-        let rest : offset t (0 ∷ path_of steps) ≡ offset r (path_of steps) = (let q = ap (λ u. offset u (path_of steps)) first_type in omega (arith, none, q)) in
-        place_is m (let q : pc + suc (index_count steps) ≡ pc + 1 + index_count steps = omega arith in q) (post path1 near1 words1 leads1 le1 (omega (arith, at_part1, rest)) g1))) z stands.0))
+        (λ path1 leads1.
+        let rest : lacks + (part_offset t 0 + offset (part_type t 0) (path_of steps)) ≡ lacks + offset r (path_of steps) = (let q = ap (λ u. offset u (path_of steps)) first_type in omega (arith, none, q)) in
+        let q : pc + suc (index_count steps) ≡ pc + 1 + index_count steps = omega arith in
+        place_is m q (subst (λ j. At m (12 + lo) 1 b v (k (spot_at path1) w) (Reached s path1 j) (pc + suc (index_count steps))) rest (post path1 leads1)))) z held))
 
-  -- of a variable of a site, from its beginning
-  module _ (c : Frame) (calls : List Frame) (ws : Ways) (stops : Panics ws) (env : Env) (var : ℕ) (k : Then Spot) (w : World)
-      (site : ℕ) (from : c.func.first ≤ site) (to : site < c.func.first + c.func.count) (s : TypeTree) (at lo b : ℕ)
-      (ha : wide_of c.held ≡ at) where
-    abbrev own : TypeTree
-    own = site_type m.program site
+  -- a variable of a site, from its beginning
+  module _ (c : Frame) (calls : List Frame) (v : View) (w : World) (site : ℕ) (scoped : InScope site c.scope) (at : ℕ) (ha : length c.held ≡ at) where
+    abbrev own_site : TypeTree
+    own_site = site_type m.program site
 
-    abbrev slot : ℕ
-    slot = site_slot (slots_of m.program c.func) site
+    abbrev front_slot : ℕ
+    front_slot = site_slot (slots_of m.program c.func) site
 
-    abbrev deep : ℕ
-    deep = depth m (c ∷ calls)
-
-    abbrev site_temp : ℕ
-    site_temp = temp (slots_of m.program c.func) at
-
-    site_inside : slot + width own ≤ deep
-    site_inside = let r = site_within m.program c.func site from to in omega arith
-
-    started : (steps : Steps) (vs gone more : List Value) (t : TypeTree) (path : List ℕ) (first front pc : ℕ) (words : List ℕ) → Shaped t steps s → Operands steps vs → c.held ≡ gone ++ (vs ++ more) → wide_of gone ≡ first → at + steps_far steps ≤ temps_of m.program c.func → Leads own path t
-        → front ≡ slot + offset own path → Standing m.code c.fn pc (steps_address (slots_of m.program c.func) front t steps first at) → Good m (c ∷ calls) w words
-        → ((path1 : List ℕ) (word : ℕ) (words1 : List ℕ) → Leads own path1 s → PartFrom c calls site (steps_far steps) t steps path path1 word → Good m (hold c (c.held ++ held_by (steps_far steps) word) ∷ calls) w words1
-        → At m (numbers (c ∷ calls)) (12 + lo) 1 b (k (record { variable = var; path = path1 }) w)
-        (pc + steps_address_size steps) words1 w)
-        → At m (numbers (c ∷ calls)) (suc (12 + lo)) 1 b (Meaning.settle_steps ws env (steps_with steps vs) var path k w) pc words w
-    started itself vs gone more t path first front pc words shape given e hg room leads begins has g post =
-        later m {lo = 12 + lo} {hi = 1} {b = b} (omega arith) (omega arith) (omega arith)
-        (place_is m (let q : pc + 0 ≡ pc = omega arith in q) (post path 0 words (subst (λ u. Leads own path u) shape leads) (sym (append-nil path)) (held_none m c calls w words g)))
-    started (inner i steps) vs gone more t path first front pc words shape given e hg room leads begins has g post =
-        let next = joined_types own t (part_type t i) path (i ∷ []) leads in
-        let behind : offset own (path ++ i ∷ []) ≡ offset own path + (part_offset t i + 0) = next.offset in
-        started steps vs gone more (part_type t i) (path ++ i ∷ []) first (front + part_offset t i) pc words shape.1 given e hg room (next.leads (shape.0, refl)) (omega (arith, behind)) has g
-        (λ path1 word words1 leads1 part1 g1. post path1 word words1 leads1 (part_on (steps_far steps) path1 word part1) g1)
+    -- a part of it, by its address
+    pub addressed : (path : List ℕ) (s : TypeTree) (front : ℕ) (u : Memory) → Leads own_site path s → front ≡ front_slot + offset own_site path → at < temps_of m.program c.func → Stands m v w (c ∷ calls) u
+        → Stands m v w (hold c (c.held ++ address s (c.env site) path 0 ∷ []) ∷ calls) (sets u (temp (slots_of m.program c.func) at) (address_of m.max (length u.words - front)))
+    addressed path s front u leads begins room g = good_set m.program m.max v w c calls u at (address_of m.max (length u.words - front)) (address s (c.env site) path 0) ha room there g
       where
-        part_on : (n : ℕ) (path1 : List ℕ) (word : ℕ) → PartFrom c calls site n (part_type t i) steps (path ++ i ∷ []) path1 word → PartFrom c calls site n t (inner i steps) path path1 word
-        part_on zero path1 word e1 = e1 ∙ append_assoc path (i ∷ []) (path_of steps)
-        part_on (suc n) path1 word p1 = p1
-    started (at_index p e n steps) vs gone more t path first front pc words (r, is, some, shape) given eq hg room leads begins has g post =
-        let first_type : part_type t 0 ≡ r = (element_leads t r n 0 is some).1 in let none = first_offset t r n is some in
-        let ends = within own t path leads in let all = site_inside in
-        let le : front ≤ deep = omega arith in
-        let small = address_small m words deep g.long g.within front le in
-        addressed m w (numbers (c ∷ calls)) words deep pc (12 + lo) 0 b _ g.long g.within site_temp front has.0.0 le
-        (indexed c calls ws stops env var k w (address_of m.max deep) deep (origin_is m words deep g.long g.within)
-        (address_small m words deep g.long g.within deep (omega arith)) own slot site_inside s at lo b ha
-        (at_index p e n steps) vs gone more t path first front 0 (pc + 1)
-        (slice_set words site_temp (slot_address m deep front)) (r, is, some, shape) given eq hg (omega arith) leads
-        (omega arith) le has.1
-        (address_set c calls w words (slot_address m deep front) at ha (omega arith) small g)
-        (λ path1 near1 words1 leads1 le1 at_part1 g1.
-        place_is m (let q : pc + suc (suc (index_count steps)) ≡ pc + 1 + suc (index_count steps) = omega arith in q)
-        (post path1 (slot_address m deep near1) words1 leads1 (near1, refl, le1, omega (arith, at_part1, none)) g1)))
+        there : Reaches v.homes u.hi w s (c.env site) path 0 (address_of m.max (length u.words - front))
+        there =
+            let h = site_home c calls v w u site scoped g in let among = g.homed.owned.0.among site scoped in
+            let inside = site_inside m.program c.func site among.0 among.1 in let ends = within own_site s path leads in
+            let long = g.sized.used in let upper = g.sized.ends in let low = g.sized.fits in let has = g.sized.has in
+            let off : offset h.cell.type path ≡ offset own_site path = ap (λ o. offset o path) h.kind in
+            record {
+              cell = h.cell;
+              there = h.there;
+              leads = subst (λ o. Leads o path s) (sym h.kind) leads;
+              less = omega arith;
+              some = omega arith;
+              at = λ q hq. let same : on_stack (depth m.program (c ∷ calls) - front_slot) ≡ q = some_same (sym (g.homed.slots (c.env site) (depth m.program (c ∷ calls) - front_slot) own_site (inl (site, scoped, refl, refl, refl))) ∙ hq) in
+                  subst (λ o. address_of m.max (length u.words - front) + 0 ≡ address_in u.hi o + offset h.cell.type path) same (omega (arith, off, inside.0, inside.1));
+            }
+
+    module _ (ws : Ways) (stops : Panics ws) (env : Env) (k : Then Spot) (t : TypeTree) (lo b : ℕ) where
+      started : (steps : Steps) (vs : List Value) (gone more : List Kept) (s : TypeTree) (path : List ℕ) (first front pc : ℕ) → Shaped s steps t → Operands steps vs → c.held ≡ gone ++ (all_kept (index_types steps) vs ++ more) → length gone ≡ first → at + steps_far steps ≤ temps_of m.program c.func → Leads own_site path s
+          → front ≡ front_slot + offset own_site path → Standing m.code c.fn pc (steps_address (slots_of m.program c.func) front s steps first at)
+          → ((path1 : List ℕ) → Leads own_site path1 t → (steps_far steps ≡ 0 → path1 ≡ path ++ path_of steps)
+          → At m (12 + lo) 1 b v (k (record { variable = c.env site; path = path1 }) w) (Stands m v w (hold c (c.held ++ held_by (steps_far steps) t (c.env site) path1 (far_offset s steps)) ∷ calls)) (pc + steps_address_size steps))
+          → At m (suc (12 + lo)) 1 b v (Meaning.settle_steps ws env (steps_with steps vs) (c.env site) path k w) (Stands m v w (c ∷ calls)) pc
+      started itself vs gone more s path first front pc shape ops e hg room leads begins has post =
+          let q : pc + 0 ≡ pc = omega arith in
+          later m {lo = 12 + lo} {hi = 1} {b = b} (omega arith) (omega arith) (omega arith)
+          (given m (held_none m v w c calls) (place_is m q (post path (subst (λ u. Leads own_site path u) shape leads) (λ z. sym (append-nil path)))))
+      started (inner i steps) vs gone more s path first front pc shape ops e hg room leads begins has post =
+          let next = joined_types own_site s (part_type s i) path (i ∷ []) leads in
+          let off : offset own_site (path ++ i ∷ []) ≡ offset own_site path + (part_offset s i + 0) = next.offset in
+          started steps vs gone more (part_type s i) (path ++ i ∷ []) first (front + part_offset s i) pc shape.1 ops e hg room (next.leads (shape.0, refl)) (omega (arith, off)) has
+          (λ path1 leads1 straight. post path1 leads1 (λ z. straight z ∙ append_assoc path (i ∷ []) (path_of steps)))
+      started (at_index p e n steps) vs gone more s path first front pc shape ops eq hg room leads begins has post =
+          let none = first_offset s shape.0 n shape.1 shape.2 in let slot = temp (slots_of m.program c.func) at in
+          knowing m (λ s0 g0.
+          stepped m {lo = 12 + lo} {hi = 0} (Address slot front) (λ u. sets u slot (address_of m.max (length u.words - front))) has.0.0
+          (λ u g. (refl, refl, addressed path s front u leads begins (omega arith) g))
+          (indexed c calls v w ws stops env (c.env site) own_site (site_home c calls v w s0 site scoped g0) at lo b ha (omega arith) k (at_index p e n steps) vs gone more s t path first 0 (pc + 1) shape ops eq hg leads has.1 (λ path1 leads1.
+          let lacks : 0 + offset s (0 ∷ path_of steps) ≡ offset (part_type s 0) (path_of steps) = omega (arith, none) in
+          let q : pc + suc (suc (index_count steps)) ≡ pc + 1 + suc (index_count steps) = omega arith in
+          place_is m q (subst (λ j. At m (12 + lo) 1 b v (k (record { variable = c.env site; path = path1 }) w) (Stands m v w (hold c (c.held ++ address t (c.env site) path1 j ∷ []) ∷ calls)) (pc + suc (suc (index_count steps)))) (sym lacks) (post path1 leads1 (λ z. absurd (omega (arith, z))))))))
 
   -- a place takes its turns, its operands are tested, and its address is worked out
-  pub settled_follow : (q : Pl) (t : TypeTree) (vs gone more : List Value) (c : Frame) (calls : List Frame) (ws : Ways) (env env0 : Env) (k : Then Spot) (w : World) (words : List ℕ) (first at pc lo b : ℕ) → Panics ws → Located c.scope t q → Operands (steps_of q) vs → c.held ≡ gone ++ (vs ++ more) → wide_of gone ≡ first → wide_of c.held ≡ at → at + far q ≤ temps_of m.program c.func
-      → Standing m.code c.fn pc (address_code (slots_of m.program c.func) q first at) → Good m (c ∷ calls) w words
-      → ((path : List ℕ) (word : ℕ) (words1 : List ℕ) → PlaceIn c calls t q path word → Good m (hold c (c.held ++ held_by (far q) word) ∷ calls) w words1 → At m (numbers (c ∷ calls)) (12 + lo) 1 b (k (record { variable = variable_of env0 q; path = path }) w) (pc + address_size q) words1 w)
-      → At m (numbers (c ∷ calls)) lo 0 b (Meaning.settle ws env (aimed env0 q vs) k w) pc words w
-  settled_follow (local site steps) t vs gone more c calls ws env env0 k w words first at pc lo b stops fit given e hg ha room has g post =
-      let among = g.stack.0.among site fit.0 in let none : site_slot (slots_of m.program c.func) site ≡ site_slot (slots_of m.program c.func) site + 0 = omega arith in
+  pub settled_follow : (q : Pl) (t : TypeTree) (vs : List Value) (gone more : List Kept) (c : Frame) (calls : List Frame) (ws : Ways) (env env0 : Env) (k : Then Spot) (v : View) (w : World) (first at pc lo b : ℕ) → Panics ws → Located c.scope t q → variable_of c.env q ≡ variable_of env0 q → Operands (steps_of q) vs
+      → c.held ≡ gone ++ (all_kept (index_types (steps_of q)) vs ++ more) → length gone ≡ first → length c.held ≡ at → at + far q ≤ temps_of m.program c.func → Standing m.code c.fn pc (address_code (slots_of m.program c.func) q first at)
+      → ((path : List ℕ) → LeadsTo t q path → At m (12 + lo) 1 b v (k (record { variable = variable_of env0 q; path = path }) w) (Stands m v w (hold c (c.held ++ place_held c.env q t path) ∷ calls)) (pc + address_size q))
+      → At m lo 0 b v (Meaning.settle ws env (aimed env0 q vs) k w) (Stands m v w (c ∷ calls)) pc
+  settled_follow (local site steps) t vs gone more c calls ws env env0 k v w first at pc lo b stops fit same ops e hg ha room has post =
+      let none : site_slot (slots_of m.program c.func) site ≡ site_slot (slots_of m.program c.func) site + 0 = omega arith in
       turned m {lo1 = suc (12 + lo)} (omega arith)
-      (started c calls ws stops env (env0 site) k w site among.0 among.1 t at lo b ha steps vs gone more (site_type m.program site) [] first (site_slot (slots_of m.program c.func) site) pc words fit.1 given e hg room refl none has g
-      (λ path word words1 leads part g1. post path word words1 (leads, part) g1))
-  settled_follow (global g0 steps) t vs gone more c calls ws env env0 k w words first at pc lo b stops fit given e hg ha room has g post =
-      let s = slots_of m.program c.func in let own = global_type m.program g0 in let from = words_before m.program g0 in
-      let few = m.few in let inside = words_within m.program g0 fit.0 in let word = first_address + from in
+      (subst (λ x. At m (suc (12 + lo)) 1 b v (Meaning.settle_steps ws env (steps_with steps vs) x [] k w) (Stands m v w (c ∷ calls)) pc) same
+      (started c calls v w site fit.0 at ha ws stops env k t lo b steps vs gone more (site_type m.program site) [] first (site_slot (slots_of m.program c.func) site) pc fit.1 ops e hg room refl none has
+      (λ path leads straight. subst (λ x. At m (12 + lo) 1 b v (k (record { variable = x; path = path }) w) (Stands m v w (hold c (c.held ++ held_by (steps_far steps) t (c.env site) path (far_offset (site_type m.program site) steps)) ∷ calls)) (pc + steps_address_size steps)) (sym same) (post path (leads, straight)))))
+  settled_follow (global g0 steps) t vs gone more c calls ws env env0 k v w first at pc lo b stops fit same ops e hg ha room has post =
+      let s = slots_of m.program c.func in let own = global_type m.program g0 in let word = first_address + words_before m.program g0 in
       turned m {lo1 = suc (12 + lo)} (omega arith)
-      (stepped m {lo = 12 + lo} {hi = 0} (Const (temp s at) word) has.0.0 (λ heap. refl)
-      (indexed c calls ws stops env g0 k w first_address (all_words m.program) (omega arith)
-      (omega arith) own from inside t at lo b ha steps vs gone more own [] first from 0 (pc + 1)
-      (slice_set words (temp s at) word) fit.1 given e hg (omega arith) refl (omega arith) (omega arith)
-      (subst (λ u. Standing m.code c.fn (pc + 1) (index_code s u steps first at)) (type_is m.program c.func g0) has.1)
-      (address_set c calls w words word at ha (omega arith) (omega arith) g)
-      (λ path1 near1 words1 leads1 le1 part1 g1.
-      place_is m (let q : pc + suc (index_count steps) ≡ pc + 1 + index_count steps = omega arith in q)
-      (post path1 (first_address + near1) words1 (leads1, (near1, refl, le1, omega (arith, part1))) g1))))
-
-  -- the address of a place that is held, as a word
-  abbrev pub AddressAt : Frame → Pl → (at word : ℕ) → List ℕ → Type 0
-  AddressAt c q at word words = (n : ℕ) → far q ≡ suc n → slice_index words (temp (slots_of m.program c.func) at) ≡ word
-
-  pub address_at : (q : Pl) (t : TypeTree) (c : Frame) (calls : List Frame) (w : World) (words path : List ℕ) (held more : List Value) (at word : ℕ) → Located c.scope t q → PlaceIn c calls t q path word → wide_of held ≡ at → Good m (hold c ((held ++ held_by (far q) word) ++ more) ∷ calls) w words → AddressAt c q at word words
-  address_at (local site steps) t c calls w words path held more at word fit part ha g n reached = by (steps_far steps) reached part.1 g
+      (knowing m (λ s0 k0.
+      let h = global_home c calls v w s0 g0 fit.0 k0 in
+      stepped m {lo = 12 + lo} {hi = 0} (Const (temp s at) word) (λ u. sets u (temp s at) word) has.0.0
+      (λ u g. (refl, refl, good_set m.program m.max v w c calls u at word (address own g0 [] 0) ha (omega arith) (start u g) g))
+      (indexed c calls v w ws stops env g0 own h at lo b ha (omega arith) k steps vs gone more own t [] first 0 (pc + 1) fit.1 ops e hg refl
+      (subst (λ u. Standing m.code c.fn (pc + 1) (index_code s u steps first at)) (type_is m.program c.func g0) has.1) (λ path1 leads1.
+      let q : pc + suc (index_count steps) ≡ pc + 1 + index_count steps = omega arith in let none : 0 + offset own (path_of steps) ≡ offset own (path_of steps) = omega arith in
+      place_is m q (subst (λ j. At m (12 + lo) 1 b v (k (record { variable = g0; path = path1 }) w) (Stands m v w (hold c (c.held ++ address t g0 path1 j ∷ []) ∷ calls)) (pc + suc (index_count steps))) (sym none) (post path1 (leads1, λ z. absurd (omega (arith, z)))))))))
     where
-      by : (f : ℕ) → f ≡ suc n → PartFrom c calls site f (site_type m.program site) steps [] path word → Good m (hold c ((held ++ held_by f word) ++ more) ∷ calls) w words → slice_index words (temp (slots_of m.program c.func) at) ≡ word
-      by zero e p g = absurd (omega arith)
-      by (suc f) e (near, is, le, rest) g = let small = address_small m words (depth m (c ∷ calls)) g.long g.within near le in address_word c calls w words held more word at ha (omega (arith, is)) g
-  address_at (global g0 steps) t c calls w words path held more at word fit
-      (leads, (near, is, le, rest)) ha g n reached = let few = m.few in
-      address_word c calls w words held more word at ha (omega (arith, is)) g
+      start : (u : Memory) → Stands m v w (c ∷ calls) u → Reaches v.homes u.hi w (global_type m.program g0) g0 [] 0 (first_address + words_before m.program g0)
+      start u g =
+          let h = global_home c calls v w u g0 fit.0 g in
+          record {
+            cell = h.cell;
+            there = h.there;
+            leads = h.kind;
+            less = omega arith;
+            some = omega arith;
+            at = λ q hq. let same : on_heap (words_before m.program g0) ≡ q = some_same (sym (g.homed.globals g0 fit.0 (let b = g.homed.begun in omega arith)).3 ∙ hq) in
+                subst (λ o. first_address + words_before m.program g0 + 0 ≡ address_in u.hi o + 0) same (omega arith);
+          }
 
   -- ---- what a place has, and what it gets
 
-  module _ (c : Frame) (calls : List Frame) where
-    -- words go from a part to temps, and from temps to it
-    part_fetched : (f site : ℕ) (steps : Steps) (t : TypeTree) (path : List ℕ) (w : World) (words running : List ℕ) (at h word pc lo hi b : ℕ) (rest : Trace) → slice_get m.code.instrs pc ≡ Some (fetch_part (slots_of m.program c.func) site steps f at h) → type_at (site_type m.program site) (path_of steps) ≡ t → 0 < width t
-        → PartFrom c calls site f (site_type m.program site) steps [] path word → ((n : ℕ) → f ≡ suc n → slice_index words (temp (slots_of m.program c.func) at) ≡ word) → site_slot (slots_of m.program c.func) site + offset (site_type m.program site) path + width t ≤ depth m (c ∷ calls)
-        → temp (slots_of m.program c.func) h + width t ≤ depth m (c ∷ calls) → length words ≡ depth m (c ∷ calls) → depth m (c ∷ calls) ≤ m.max
-        → At m running lo hi b rest (pc + 1) (put_words words (temp (slots_of m.program c.func) h) (words_at words (site_slot (slots_of m.program c.func) site + offset (site_type m.program site) path) (width t))) w → At m running (suc lo) 1 b rest pc words w
-    part_fetched zero site steps t path w words running at h word pc lo hi b rest here is some part there inside room long deep post =
-        let s = slots_of m.program c.func in let own = site_type m.program site in
-        words_moved m {lo = lo} {hi = hi} (width t) (temp s h) (site_slot s site + offset own path) (subst (λ x. slice_get m.code.instrs pc ≡ Some (moves (width t) (temp s h) (site_slot s site + offset own x))) (sym part) (subst (λ u. slice_get m.code.instrs pc ≡ Some (moves (width u) (temp s h) (site_slot s site + offset own (path_of steps)))) is here)) some (omega arith) (omega arith) post
-    part_fetched (suc n) site steps t path w words running at h word pc lo hi b rest here is some (near, of, le, behind) there inside room long deep post =
-        let s = slots_of m.program c.func in let own = site_type m.program site in
-        stack_loaded m w running words (depth m (c ∷ calls)) pc lo hi b rest long deep (temp s h) (temp s at) (far_offset own steps) near (site_slot s site + offset own path) (width t)
-        (subst (λ u. slice_get m.code.instrs pc ≡ Some (Load (temp s h) (temp s at) (far_offset own steps) (width u))) is here) (there n refl ∙ of) behind inside post
+  -- what the variable of a home has
+  value_is : (x : ℕ) (own : TypeTree) (v : View) (w : World) (h : Home v w x own) → value_of w x ≡ h.cell.value
+  value_is x own v w h = ap (λ (k : Cell). k.value) (get_is w.store x h.cell no_cell h.there)
 
-    part_landed : (f site : ℕ) (steps : Steps) (t : TypeTree) (path : List ℕ) (w : World) (words running : List ℕ) (at h word pc lo hi b : ℕ) (rest : Trace) → slice_get m.code.instrs pc ≡ Some (land_part (slots_of m.program c.func) site steps f at h) → type_at (site_type m.program site) (path_of steps) ≡ t → 0 < width t
-        → PartFrom c calls site f (site_type m.program site) steps [] path word → ((n : ℕ) → f ≡ suc n → slice_index words (temp (slots_of m.program c.func) at) ≡ word) → site_slot (slots_of m.program c.func) site + offset (site_type m.program site) path + width t ≤ depth m (c ∷ calls)
-        → temp (slots_of m.program c.func) h + width t ≤ depth m (c ∷ calls) → length words ≡ depth m (c ∷ calls) → depth m (c ∷ calls) ≤ m.max
-        → At m running lo hi b rest (pc + 1) (put_words words (site_slot (slots_of m.program c.func) site + offset (site_type m.program site) path) (words_at words (temp (slots_of m.program c.func) h) (width t))) w → At m running (suc lo) 1 b rest pc words w
-    part_landed zero site steps t path w words running at h word pc lo hi b rest here is some part there inside room long deep post =
-        let s = slots_of m.program c.func in let own = site_type m.program site in
-        words_moved m {lo = lo} {hi = hi} (width t) (site_slot s site + offset own path) (temp s h) (subst (λ x. slice_get m.code.instrs pc ≡ Some (moves (width t) (site_slot s site + offset own x) (temp s h))) (sym part) (subst (λ u. slice_get m.code.instrs pc ≡ Some (moves (width u) (site_slot s site + offset own (path_of steps)) (temp s h))) is here)) some (omega arith) (omega arith) post
-    part_landed (suc n) site steps t path w words running at h word pc lo hi b rest here is some (near, of, le, behind) there inside room long deep post =
-        let s = slots_of m.program c.func in let own = site_type m.program site in
-        stack_stored m w running words (depth m (c ∷ calls)) pc lo hi b rest long deep (temp s at) (temp s h) (far_offset own steps) near (site_slot s site + offset own path) (width t)
-        (subst (λ u. slice_get m.code.instrs pc ≡ Some (Store (temp s at) (far_offset own steps) (temp s h) (width u))) is here) (there n refl ∙ of) behind inside post
+  -- the variable of a place is of its type
+  pub place_typed : (x : ℕ) (own : TypeTree) (v : View) (w : World) (c : Frame) (calls : List Frame) (s : Memory) → Stands m v w (c ∷ calls) s → (h : Home v w x own) → IsOf own (value_of w x)
+  place_typed x own v w c calls s g h = subst (λ y. IsOf own y) (sym (value_is x own v w h)) (subst (λ o. IsOf o h.cell.value) h.kind (g.homed.typed x h.cell h.there))
 
-    -- the value of a place goes to temps from h on, after the values that stay
-    pub fetched : (q : Pl) (t : TypeTree) (path : List ℕ) (word : ℕ) (base gone : List Value) (w : World) (words running : List ℕ) (at h pc lo hi b : ℕ) (rest : Trace) → slice_get m.code.instrs pc ≡ Some (fetch_code (slots_of m.program c.func) q at h) → Located c.scope t q → PlaceIn c calls t q path word → AddressAt c q at word words
-        → wide_of base ≡ h → h + width t ≤ temps_of m.program c.func → Good m (hold c (base ++ gone) ∷ calls) w words
-        → ((words1 : List ℕ) → IsOf t (at_path (value_of w (variable_of c.env q)) path) → Good m (hold c (base ++ at_path (value_of w (variable_of c.env q)) path ∷ []) ∷ calls) w words1 → At m running lo hi b rest (pc + 1) words1 w)
-        → At m running (suc lo) 1 b rest pc words w
-    fetched (local v steps) t path word base gone w words running at h pc lo hi b rest here fit part there hh room g post =
-        let s = slots_of m.program c.func in let own = site_type m.program v in
-        let whole = value_of w (c.env v) in let x = at_path whole path in
-        let g0 = fewer m c calls w words base gone g in
-        let from = site_slot s v + offset own path in
-        let is = at_is own t whole path (g.stack.0.types v fit.0) part.0 in
-        let count = count_of t x is in
-        let parts = words_of_part own t whole x path nothing (g.stack.0.types v fit.0) part.0 is in
-        let old = count_of own whole (g.stack.0.types v fit.0) in
-        let among = g.stack.0.among v fit.0 in let inside = site_within m.program c.func v among.0 among.1 in
-        let ends = within own t path part.0 in let long = g.long in
-        let xs = words_at words from (width t) in
-        part_fetched (steps_far steps) v steps t path w words running at h word pc lo hi b rest here (leads_to own t (path_of steps) (shaped_leads own t steps fit.1)) fit.2 part.1 there (omega arith) (omega arith) g.long g.within
-        (post (put_words words (temp s h) xs) is
-        (value_put m (hold c base) calls w words xs h (width t) x hh count room (record {
-          long = read_length words from (width t) (omega arith) ∙ sym count;
-          each = λ j l.
-              let q : from + j ≡ site_slot s v + (offset own path + j) = omega arith in
-              stands_same (get_or (contents whole) (offset own path + j) nothing) (get_or (contents x) j nothing) (slice_index words (site_slot s v + (offset own path + j))) (slice_index xs j)
-              (parts.read j (omega (arith, count))) (read_index words from (width t) j (omega (arith, count)) ∙ ap (slice_index words) q)
-              (site_word m (hold c base) calls w words v (offset own path + j) fit.0 (omega (arith, count, old)) g0);
-        }) g0))
-    fetched (global q steps) t path word base gone w words running at h pc lo hi b rest here fit
-        (leads, (near, is, le, behind)) there hh room g post =
-        let s = slots_of m.program c.func in let own = global_type m.program q in
-        let whole = value_of w q in let x = at_path whole path in
-        let g0 = fewer m c calls w words base gone g in
-        let typed = at_is own t whole path (g.kinds q fit.0) leads in
-        loaded m w q path t fit.0 (g.kinds q fit.0) leads words running pc lo hi b rest (temp s at)
-        (offset own (path_of steps)) near (there 0 refl ∙ is) behind (temp s h)
-        (subst (λ u. slice_get m.code.instrs pc ≡ Some (Load (temp s h) (temp s at) (offset own (path_of steps)) (width u)))
-        (leads_to own t (path_of steps) (shaped_leads own t steps fit.1))
-        (subst (λ u. slice_get m.code.instrs pc ≡ Some
-        (Load (temp s h) (temp s at) (offset u (path_of steps)) (width (type_at u (path_of steps)))))
-        (type_is m.program c.func q) here)) (λ xs stands.
-        post (put_words words (temp s h) xs) typed
-        (value_put m (hold c base) calls w words xs h (width t) x hh (count_of t x typed) room stands g0))
+  -- where words are that are held by another name
+  held_again : (c : Frame) (calls : List Frame) (v : View) (w : World) (held : List Kept) (s : Memory) → c.held ≡ held → Stands m v w (c ∷ calls) s → Stands m v w (hold c held ∷ calls) s
+  held_again c calls v w held s e g = subst (λ l. Stands m v w (hold c l ∷ calls) s) e (good_kept m.program m.max v w c calls s c.held g.homed.owned.0.room (λ i k l f. g.framed.kept (depth m.program (c ∷ calls) - (outgoing_of m.program c.func + i)) k (inl (i, l, refl, f))) g)
 
-    -- a place gets the value in temps from h on
-    pub landed : (q : Pl) (t : TypeTree) (path : List ℕ) (word : ℕ) (gone more : List Value) (x : Value) (w : World) (words running : List ℕ) (at h pc lo hi b : ℕ) (rest : Trace) → slice_get m.code.instrs pc ≡ Some (land_code (slots_of m.program c.func) q at h) → Located c.scope t q → PlaceIn c calls t q path word → AddressAt c q at word words
-        → c.held ≡ gone ++ x ∷ more → wide_of gone ≡ h → IsOf t x → Good m (c ∷ calls) w words
-        → ((words1 : List ℕ) → Good m (c ∷ calls) (written w (variable_of c.env q) path x) words1 → At m running lo hi b rest (pc + 1) words1 (written w (variable_of c.env q) path x))
-        → At m running (suc lo) 1 b rest pc words w
-    landed (local v steps) t path word gone more x w words running at h pc lo hi b rest here fit part there e hg typed g post =
-        let s = slots_of m.program c.func in let own = site_type m.program v in
-        let to = site_slot s v + offset own path in
-        let count = count_of t x typed in
-        let among = g.stack.0.among v fit.0 in let inside = site_within m.program c.func v among.0 among.1 in
-        let ends = within own t path part.0 in let long = g.long in
-        let xs = words_at words (temp s h) (width t) in
-        let above = g.stack.0.above in let home = g.stack.0.homes v fit.0 in
-        let held = subst (λ l. Good m (hold c l ∷ calls) w words) e g in
-        let room_from = held_room m c calls w words gone more x h (width t) hg count held in
-        part_landed (steps_far steps) v steps t path w words running at h word pc lo hi b rest here (leads_to own t (path_of steps) (shaped_leads own t steps fit.1)) fit.2 part.1 there (omega arith) (omega arith) g.long g.within
-        (written_kept m (c.env v) path x (omega arith)
-        (post (put_words words to xs) (written_site m c calls w words x v path t xs fit.0 part.0 (held_stand m c calls w words gone more x h (width t) hg count held) typed g)))
-    landed (global q steps) t path word gone more x w words running at h pc lo hi b rest here fit
-        (leads, (near, is, le, behind)) there e hg typed g post =
-        let s = slots_of m.program c.func in let own = global_type m.program q in
-        let held = subst (λ l. Good m (hold c l ∷ calls) w words) e g in
-        let stands = held_stand m c calls w words gone more x h (width t) hg (count_of t x typed) held in
-        stored m w q path t fit.0 (g.kinds q fit.0) leads words running pc lo hi b rest (temp s at)
-        (offset own (path_of steps)) near (there 0 refl ∙ is) behind (temp s h) x
-        (subst (λ u. slice_get m.code.instrs pc ≡ Some (Store (temp s at) (offset own (path_of steps)) (temp s h) (width u)))
-        (leads_to own t (path_of steps) (shaped_leads own t steps fit.1))
-        (subst (λ u. slice_get m.code.instrs pc ≡ Some
-        (Store (temp s at) (offset u (path_of steps)) (temp s h) (width (type_at u (path_of steps)))))
-        (type_is m.program c.func q) here)) g.many typed stands
-        (post words (written_global m (c ∷ calls) w words x q path t fit.0 leads typed g))
+  -- what the instruction does that reads a place
+  fetch_does : (q : Pl) (t : TypeTree) (path : List ℕ) (c : Frame) (calls : List Frame) (base gone : List Kept) (v : View) (w : World) (at h pc : ℕ) → Located c.scope t q → LeadsTo t q path → ((n : ℕ) → far q ≡ suc n → slice_get (base ++ gone) at ≡ Some (address t (variable_of c.env q) path (lacks_of q)))
+      → length base ≡ h → h + width t ≤ temps_of m.program c.func → (k : Home v w (variable_of c.env q) (own_type q)) (s : Memory) → Stands m v w (hold c (base ++ gone) ∷ calls) s
+      → does_at m (fetch_code (slots_of m.program c.func) q at h) pc s ≡ Goes [] (state_of m (pc + 1) (puts s (temp (slots_of m.program c.func) h) (part_place s k.place (offset (own_type q) path) (width t))))
+  fetch_does (local site steps) t path c calls base gone v w at h pc fit leads there hh room k s g = by (steps_far steps) refl
+    where
+      own : TypeTree
+      own = site_type m.program site
+
+      wide : width (type_at own (path_of steps)) ≡ width t
+      wide = ap width (leads_to own t (path_of steps) (shaped_leads own t steps fit.1))
+
+      by : (f : ℕ) → f ≡ steps_far steps → does_at m (fetch_part (slots_of m.program c.func) site steps f at h) pc s ≡ Goes [] (state_of m (pc + 1) (puts s (temp (slots_of m.program c.func) h) (part_place s k.place (offset own path) (width t))))
+      by zero e =
+          let home = g.homed.slots (c.env site) (depth m.program (c ∷ calls) - site_slot (slots_of m.program c.func) site) own (inl (site, fit.0, refl, refl, refl)) in
+          let there1 : on_stack (depth m.program (c ∷ calls) - site_slot (slots_of m.program c.func) site) ≡ k.place = some_same (sym home ∙ k.home) in
+          let among = g.homed.owned.0.among site fit.0 in let inside = site_inside m.program c.func site among.0 among.1 in let ends = within own t path leads.0 in
+          let used = g.sized.used in let straight = leads.1 (sym e) in let slot = site_slot (slots_of m.program c.func) site in
+          let from : slot + offset own path ≡ length s.words - (depth m.program (c ∷ calls) - slot - offset own path) = omega (arith, inside.1, inside.0) in
+          ap (λ n. does_at m (moves n (temp (slots_of m.program c.func) h) (slot + offset own (path_of steps))) pc s) wide
+          ∙ ap (λ r. does_at m (moves (width t) (temp (slots_of m.program c.func) h) (slot + offset own r)) pc s) (sym straight)
+          ∙ moved_by m (width t) (temp (slots_of m.program c.func) h) (slot + offset own path) pc s fit.2 (omega (arith, inside.1, inside.0)) (omega (arith, inside.1, inside.0))
+          ∙ ap (λ n. Goes [] (state_of m (pc + 1) (puts s (temp (slots_of m.program c.func) h) (words_at s.words n (width t))))) from
+          ∙ ap (λ (r : Place). Goes [] (state_of m (pc + 1) (puts s (temp (slots_of m.program c.func) h) (part_place s r (offset own path) (width t))))) there1
+      by (suc n) e =
+          let a = kept_word m.program m.max v w (hold c (base ++ gone)) calls s at (address t (c.env site) path (far_offset own steps)) (there n (sym e)) g in
+          let kind : a.cell.type ≡ own = ap (λ (o : Cell). o.type) (some_same (sym a.there ∙ k.there)) ∙ k.kind in
+          ap (λ j. does_at m (Load (temp (slots_of m.program c.func) h) (temp (slots_of m.program c.func) at) (far_offset own steps) j) pc s) wide
+          ∙ loaded m v w (hold c (base ++ gone) ∷ calls) s g (c.env site) t path (far_offset own steps) (slice_index s.words (temp (slots_of m.program c.func) at)) k.place k.home a pc (temp (slots_of m.program c.func) h) (temp (slots_of m.program c.func) at) refl
+          ∙ ap (λ o. Goes [] (state_of m (pc + 1) (puts s (temp (slots_of m.program c.func) h) (part_place s k.place (offset o path) (width t))))) kind
+  fetch_does (global g0 steps) t path c calls base gone v w at h pc fit leads there hh room k s g =
+      let own = global_type m.program g0 in let sl = slots_of m.program c.func in
+      let same = type_is m.program c.func g0 in
+      let wide : width (type_at own (path_of steps)) ≡ width t = ap width (leads_to own t (path_of steps) (shaped_leads own t steps fit.1)) in
+      let a = kept_word m.program m.max v w (hold c (base ++ gone)) calls s at (address t g0 path (offset own (path_of steps))) (there 0 refl) g in
+      let kind : a.cell.type ≡ own = ap (λ (o : Cell). o.type) (some_same (sym a.there ∙ k.there)) ∙ k.kind in
+      ap (λ o. does_at m (Load (temp sl h) (temp sl at) (offset o (path_of steps)) (width (type_at o (path_of steps)))) pc s) same
+      ∙ ap (λ j. does_at m (Load (temp sl h) (temp sl at) (offset own (path_of steps)) j) pc s) wide
+      ∙ loaded m v w (hold c (base ++ gone) ∷ calls) s g g0 t path (offset own (path_of steps)) (slice_index s.words (temp sl at)) k.place k.home a pc (temp sl h) (temp sl at) refl
+      ∙ ap (λ o. Goes [] (state_of m (pc + 1) (puts s (temp sl h) (part_place s k.place (offset o path) (width t))))) kind
+
+  -- and the one that writes it
+  land_does : (q : Pl) (t : TypeTree) (path : List ℕ) (c : Frame) (calls : List Frame) (gone more : List Kept) (x : Value) (v : View) (w : World) (at h pc : ℕ) → Located c.scope t q → LeadsTo t q path → ((n : ℕ) → far q ≡ suc n → slice_get c.held at ≡ Some (address t (variable_of c.env q) path (lacks_of q)))
+      → c.held ≡ gone ++ (kept t x ++ more) → length gone ≡ h → (k : Home v w (variable_of c.env q) (own_type q)) (s : Memory) → Stands m v w (c ∷ calls) s
+      → does_at m (land_code (slots_of m.program c.func) q at h) pc s ≡ Goes [] (state_of m (pc + 1) (set_place s k.place (offset (own_type q) path) (words_at s.words (temp (slots_of m.program c.func) h) (width t))))
+  land_does (local site steps) t path c calls gone more x v w at h pc fit leads there e hg k s g = by (steps_far steps) refl
+    where
+      own : TypeTree
+      own = site_type m.program site
+
+      wide : width (type_at own (path_of steps)) ≡ width t
+      wide = ap width (leads_to own t (path_of steps) (shaped_leads own t steps fit.1))
+
+      by : (f : ℕ) → f ≡ steps_far steps → does_at m (land_part (slots_of m.program c.func) site steps f at h) pc s ≡ Goes [] (state_of m (pc + 1) (set_place s k.place (offset own path) (words_at s.words (temp (slots_of m.program c.func) h) (width t))))
+      by zero f =
+          let home = g.homed.slots (c.env site) (depth m.program (c ∷ calls) - site_slot (slots_of m.program c.func) site) own (inl (site, fit.0, refl, refl, refl)) in
+          let there1 : on_stack (depth m.program (c ∷ calls) - site_slot (slots_of m.program c.func) site) ≡ k.place = some_same (sym home ∙ k.home) in
+          let among = g.homed.owned.0.among site fit.0 in let inside = site_inside m.program c.func site among.0 among.1 in let ends = within own t path leads.0 in
+          let used = g.sized.used in let straight = leads.1 (sym f) in let slot = site_slot (slots_of m.program c.func) site in
+          let room = held_room m v w c calls s gone more t x h (width t) hg refl (held_again c calls v w (gone ++ (kept t x ++ more)) s e g) in
+          let from : slot + offset own path ≡ length s.words - (depth m.program (c ∷ calls) - slot - offset own path) = omega (arith, inside.1, inside.0) in
+          ap (λ n. does_at m (moves n (slot + offset own (path_of steps)) (temp (slots_of m.program c.func) h)) pc s) wide
+          ∙ ap (λ r. does_at m (moves (width t) (slot + offset own r) (temp (slots_of m.program c.func) h)) pc s) (sym straight)
+          ∙ moved_by m (width t) (slot + offset own path) (temp (slots_of m.program c.func) h) pc s fit.2 (omega (arith, inside.1, inside.0)) room
+          ∙ ap (λ n. Goes [] (state_of m (pc + 1) (puts s n (words_at s.words (temp (slots_of m.program c.func) h) (width t))))) from
+          ∙ ap (λ (r : Place). Goes [] (state_of m (pc + 1) (set_place s r (offset own path) (words_at s.words (temp (slots_of m.program c.func) h) (width t))))) there1
+      by (suc n) f =
+          let a = kept_word m.program m.max v w c calls s at (address t (c.env site) path (far_offset own steps)) (there n (sym f)) g in
+          let kind : a.cell.type ≡ own = ap (λ (o : Cell). o.type) (some_same (sym a.there ∙ k.there)) ∙ k.kind in
+          ap (λ j. does_at m (Store (temp (slots_of m.program c.func) at) (far_offset own steps) (temp (slots_of m.program c.func) h) j) pc s) wide
+          ∙ stored m v w (c ∷ calls) s g (c.env site) t path (far_offset own steps) (slice_index s.words (temp (slots_of m.program c.func) at)) k.place k.home a pc (temp (slots_of m.program c.func) at) (temp (slots_of m.program c.func) h) refl
+          ∙ ap (λ o. Goes [] (state_of m (pc + 1) (set_place s k.place (offset o path) (words_at s.words (temp (slots_of m.program c.func) h) (width t))))) kind
+  land_does (global g0 steps) t path c calls gone more x v w at h pc fit leads there e hg k s g =
+      let own = global_type m.program g0 in let sl = slots_of m.program c.func in
+      let same = type_is m.program c.func g0 in
+      let wide : width (type_at own (path_of steps)) ≡ width t = ap width (leads_to own t (path_of steps) (shaped_leads own t steps fit.1)) in
+      let a = kept_word m.program m.max v w c calls s at (address t g0 path (offset own (path_of steps))) (there 0 refl) g in
+      let kind : a.cell.type ≡ own = ap (λ (o : Cell). o.type) (some_same (sym a.there ∙ k.there)) ∙ k.kind in
+      ap (λ o. does_at m (Store (temp sl at) (offset o (path_of steps)) (temp sl h) (width (type_at o (path_of steps)))) pc s) same
+      ∙ ap (λ j. does_at m (Store (temp sl at) (offset own (path_of steps)) (temp sl h) j) pc s) wide
+      ∙ stored m v w (c ∷ calls) s g g0 t path (offset own (path_of steps)) (slice_index s.words (temp sl at)) k.place k.home a pc (temp sl at) (temp sl h) refl
+      ∙ ap (λ o. Goes [] (state_of m (pc + 1) (set_place s k.place (offset o path) (words_at s.words (temp sl h) (width t))))) kind
+
+  -- the value of a place goes to temps from h on, after what stays
+  pub fetched : (q : Pl) (t : TypeTree) (path : List ℕ) (c : Frame) (calls : List Frame) (base gone : List Kept) (v : View) (w : World) (at h pc lo hi b : ℕ) (rest : Trace) → slice_get m.code.instrs pc ≡ Some (fetch_code (slots_of m.program c.func) q at h) → Located c.scope t q → LeadsTo t q path
+      → ((n : ℕ) → far q ≡ suc n → slice_get (base ++ gone) at ≡ Some (address t (variable_of c.env q) path (lacks_of q))) → length base ≡ h → h + width t ≤ temps_of m.program c.func
+      → (IsOf t (at_path (value_of w (variable_of c.env q)) path) → At m lo hi b v rest (Stands m v w (hold c (base ++ kept t (at_path (value_of w (variable_of c.env q)) path)) ∷ calls)) (pc + 1))
+      → At m (suc lo) 1 b v rest (Stands m v w (hold c (base ++ gone) ∷ calls)) pc
+  fetched q t path c calls base gone v w at h pc lo hi b rest here fit leads there hh room post =
+      knowing m (λ s0 g0.
+      let k = place_home c.scope t q (hold c (base ++ gone)) calls v w s0 refl fit g0 in
+      let typed = at_is (own_type q) t (value_of w (variable_of c.env q)) path (place_typed (variable_of c.env q) (own_type q) v w (hold c (base ++ gone)) calls s0 g0 k) leads.0 in
+      let next = λ (s : Memory). puts s (temp (slots_of m.program c.func) h) (part_place s k.place (offset (own_type q) path) (width t)) in
+      stepped m {lo = lo} {hi = hi} (fetch_code (slots_of m.program c.func) q at h) next here
+      (λ s g. (fetch_does q t path c calls base gone v w at h pc fit leads there hh room k s g, refl, put_there k s g)) (post typed))
+    where
+      put_there : (k : Home v w (variable_of c.env q) (own_type q)) (s : Memory) → Stands m v w (hold c (base ++ gone) ∷ calls) s
+          → Stands m v w (hold c (base ++ kept t (at_path (value_of w (variable_of c.env q)) path)) ∷ calls) (puts s (temp (slots_of m.program c.func) h) (part_place s k.place (offset (own_type q) path) (width t)))
+      put_there k s g =
+          let st = home_value m.program m.max v w (hold c (base ++ gone) ∷ calls) s (variable_of c.env q) k.cell k.place path t k.there k.home (subst (λ o. Leads o path t) (sym k.kind) leads.0) g in
+          value_put m v w (hold c base) calls s h t (at_path (value_of w (variable_of c.env q)) path) (part_place s k.place (offset (own_type q) path) (width t)) hh room
+          (subst (λ o. Stand v.homes s.hi w (leaves t) (contents (at_path (value_of w (variable_of c.env q)) path)) (part_place s k.place (offset o path) (width t))) k.kind
+          (subst (λ y. Stand v.homes s.hi w (leaves t) (contents (at_path y path)) (part_place s k.place (offset k.cell.type path) (width t))) (sym (value_is (variable_of c.env q) (own_type q) v w k)) st))
+          (fewer m v w c calls s base gone g)
+
+  -- a place gets the value in temps from h on
+  pub landed : (q : Pl) (t : TypeTree) (path : List ℕ) (x : Value) (c : Frame) (calls : List Frame) (gone more : List Kept) (v : View) (w : World) (at h pc lo hi b : ℕ) (rest : Trace) → slice_get m.code.instrs pc ≡ Some (land_code (slots_of m.program c.func) q at h) → Located c.scope t q → LeadsTo t q path
+      → ((n : ℕ) → far q ≡ suc n → slice_get c.held at ≡ Some (address t (variable_of c.env q) path (lacks_of q))) → c.held ≡ gone ++ (kept t x ++ more) → length gone ≡ h → IsOf t x
+      → At m lo hi b v rest (Stands m v (written w (variable_of c.env q) path x) (c ∷ calls)) (pc + 1)
+      → At m (suc lo) 1 b v rest (Stands m v w (c ∷ calls)) pc
+  landed q t path x c calls gone more v w at h pc lo hi b rest here fit leads there e hg typed post =
+      knowing m (λ s0 g0.
+      let k = place_home c.scope t q c calls v w s0 refl fit g0 in
+      let next = λ (s : Memory). set_place s k.place (offset (own_type q) path) (words_at s.words (temp (slots_of m.program c.func) h) (width t)) in
+      stepped m {lo = lo} {hi = hi} (land_code (slots_of m.program c.func) q at h) next here
+      (λ s g. (land_does q t path c calls gone more x v w at h pc fit leads there e hg k s g, same_range k.place s, written_there k s g)) post)
+    where
+      same_range : (r : Place) (s : Memory) → range_of m s ≡ range_of m (set_place s r (offset (own_type q) path) (words_at s.words (temp (slots_of m.program c.func) h) (width t)))
+      same_range (on_stack d) s = refl
+      same_range (on_heap i) s = refl
+
+      written_there : (k : Home v w (variable_of c.env q) (own_type q)) (s : Memory) → Stands m v w (c ∷ calls) s
+          → Stands m v (written w (variable_of c.env q) path x) (c ∷ calls) (set_place s k.place (offset (own_type q) path) (words_at s.words (temp (slots_of m.program c.func) h) (width t)))
+      written_there k s g =
+          let held = held_again c calls v w (gone ++ (kept t x ++ more)) s e g in
+          let xs = words_at s.words (temp (slots_of m.program c.func) h) (width t) in
+          let st = held_stand m v w c calls s gone more t x h (width t) hg refl held in
+          subst (λ o. Stands m v (written w (variable_of c.env q) path x) (c ∷ calls) (set_place s k.place (offset o path) xs)) k.kind
+          (home_write m.program m.max v w (c ∷ calls) s (variable_of c.env q) k.cell path t x xs k.there (subst (λ o. Leads o path t) (sym k.kind) leads.0) typed st g k.place k.home)

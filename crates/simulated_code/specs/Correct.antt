@@ -1,52 +1,23 @@
 -- What the code of a program does, against what the program means.
-use Rattle.std.specs.Prelude.{◌≡◌, ⊤, ℕ, ◌+◌, ◌*◌, ◌^◌, ◌≤◌, List, [], ◌∷◌, ◌++◌, length, replicate, get_or, slice_get, Option, Some, None, nat_le, if◌then◌else◌, IfSome, FitsSigned}
-use Rattle.std.specs.Int.{w64}
-use Rattle.typed_syntax.specs.Value.{Value, int, bool}
+use Rattle.std.specs.Prelude.{ℕ, ◌+◌, ◌*◌, ◌^◌, ◌≤◌, List, [], ◌∷◌, ◌++◌, length, replicate, slice_get, Option, Some, None, nat_le, if◌then◌else◌}
+use Rattle.typed_syntax.specs.Value.{Value}
 use Rattle.typed_syntax.specs.Words.{words_of}
 use Rattle.typed_syntax.specs.Syntax.{Program}
 use Rattle.typed_syntax.specs.Frames.{frame_words}
 use Rattle.typed_syntax.specs.Placement.{on_heap}
-use Rattle.meaning.specs.Trace.{Ending, Exit, Panic, StackLimit, HeapLimit, Fault, divide_by_zero, shift_count, index_out_of_range, exit_code, raised_text, raised}
 use Rattle.meaning.specs.Meaning.{Item}
-use Rattle.meaning.specs.Output.{Limits, Sight, printing, asking, source}
+use Rattle.meaning.specs.Output.{Limits, source}
 use Rattle.simulation.specs.Outcome.{Outcome, Ends, Unfinished, Below}
 use Rattle.simulation.specs.Steps.{exec}
 use Rattle.heap_bump.specs.Words.{Words}
 use Rattle.isa.specs.Code.{Tables}
 use Rattle.isa.specs.declared.func.Func.{Func as Entry}
-use Rattle.machine.specs.Machine.{State, Event, Printed, Asked, act}
+use Rattle.machine.specs.Machine.{State, Event, act}
 use Rattle.machine.specs.declared.run_state.Ending.{Ending as Stop}
 use Rattle.machine.specs.declared.run_state.Ending.TheVariants as Machine
-use Rattle.machine.specs.declared.run_state.Panic.{Panic as MachinePanic}
-use Rattle.machine.specs.declared.run_state.Panic.TheVariants as machine_panic
 use Rattle.program_code.specs.Code.{code_of}
+pub use Rattle.state_relation.specs.Alike.{same_event, same_fault, same_end, AreNumbers}
 use Rattle.typed_syntax.specs.Form.{IsInForm}
-
-abbrev pub same_event : Sight → Event → Type 0
-same_event (printing bytes) e = e ≡ Printed bytes
-same_event asking e = e ≡ Asked
-
--- each number among the items of the input is one of 64 bits with a sign
-abbrev pub AreNumbers : (ℕ → Item) → Type 0
-AreNumbers items = (k : ℕ) → IfSome (items k) (FitsSigned w64)
-
--- a panic of the source, and one of the machine, which names a string by its number in a table
-abbrev pub same_fault : List (List ℕ) → Fault → MachinePanic → Type 0
-same_fault strings divide_by_zero machine_panic.DivideByZero = ⊤
-same_fault strings (shift_count z) (machine_panic.ShiftCount y) = z ≡ y
-same_fault strings (exit_code z) (machine_panic.ExitCode y) = z ≡ y
-same_fault strings (index_out_of_range i n) (machine_panic.IndexOutOfRange j m) = (i ≡ j) × (n ≡ m)
-same_fault strings (raised_text bytes) (machine_panic.Text number) = bytes ≡ get_or strings number []
-same_fault strings (raised (int z)) (machine_panic.Int y) = z ≡ y
-same_fault strings (raised (bool b)) (machine_panic.Bool c) = b ≡ c
-same_fault strings f x = ⊥
-
-abbrev pub same_end : List (List ℕ) → Ending → Stop → Type 0
-same_end strings (Exit n) (Machine.Exit m) = n ≡ m
-same_end strings (Panic at f) (Machine.Panic x) = same_fault strings f x
-same_end strings (StackLimit used asked max) (Machine.StackLimit u a m) = (used ≡ u) × (asked ≡ a) × (max ≡ m)
-same_end strings (HeapLimit used asked max) (Machine.HeapLimit u a m) = (used ≡ u) × (asked ≡ a) × (max ≡ m)
-same_end strings e f = ⊥
 
 -- the limits under which a program's source is taken: the most words of the stack and of the heap
 abbrev pub limits : Program → (stack_max heap_max : ℕ) → Limits

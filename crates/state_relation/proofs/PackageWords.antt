@@ -1,26 +1,16 @@
 -- Where the words of package variables stand among each other.
 use Rattle.std.proofs.Common.{◌≡◌, ℕ, zero, suc, ◌+◌, ◌<◌, ◌≤◌, pos, List, [], ◌∷◌, length, get_or, refl, ap, arith}
-use Rattle.std.specs.Prelude.{map}
 use Rattle.std.proofs.lemmas.List.{length-map}
 use Rattle.typed_syntax.specs.Types.{TypeTree, ints, width}
 use Rattle.typed_syntax.specs.Value.{Value, int}
 use Rattle.typed_syntax.specs.Syntax.{Func, Program, global_type}
 use Rattle.program_code.specs.Code as Code
 use Rattle.program_code.specs.Code.{globals_before, slots_of}
+use Rattle.state_relation.specs.Relation.{sites_of, words_before, all_words}
 
 -- in the place of a package variable that is not there
 abbrev pub no_global : ℕ × Value
 no_global = (0, int (pos 0))
-
-abbrev pub sites_of : List (ℕ × Value) → List ℕ
-sites_of gs = map (λ g. g.0) gs
-
--- the words of the first of them, and of all
-abbrev pub words_before : Program → ℕ → ℕ
-words_before p g = globals_before p.sites (sites_of p.globals) g
-
-abbrev pub all_words : Program → ℕ
-all_words p = words_before p (length p.globals)
 
 pub site_is : (gs : List (ℕ × Value)) (g : ℕ) → get_or (sites_of gs) g 0 ≡ (get_or gs g no_global).0
 site_is [] g = refl

@@ -3,6 +3,7 @@ use Rattle.std.proofs.Common.{◌≡◌, ◌≢◌, ◌⊎◌, inl, inr, ℕ, ze
 use Rattle.std.specs.Prelude.{slice_index, slice_set, take, drop, replicate}
 use Rattle.std.proofs.lemmas.List.{get_or-take, get_or-drop, get_or_append_left, get_or-append_right, length-take, length-drop, length-replicate}
 use Rattle.machine.specs.Machine.{put_words, words_at, entered}
+use Rattle.state_relation.specs.Relation.{word_at}
 
 -- one word among others
 pub one_word : (xs : List ℕ) (i : ℕ) → i < length xs → words_at xs i 1 ≡ slice_index xs i ∷ []
@@ -16,9 +17,6 @@ put_one (y ∷ ys) zero x l = refl
 put_one (y ∷ ys) (suc i) x l =
     let e : suc i + 1 ≡ suc (i + 1) = omega arith in
     ap (λ n. y ∷ (take i ys ++ (x ∷ drop n (y ∷ ys)))) e ∙ ap (λ zs. y ∷ zs) (put_one ys i x (omega arith))
-
-abbrev pub word_at : List ℕ → ℕ → ℕ
-word_at words d = slice_index words (length words - d)
 
 -- a slot is counted from the lower end
 pub word_slot : (words : List ℕ) (d a : ℕ) → length words ≡ d → a ≤ d → word_at words (d - a) ≡ slice_index words a

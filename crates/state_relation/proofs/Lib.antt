@@ -1,0 +1,15 @@
+pub mod Lists
+pub mod Distances
+pub mod PackageWords
+pub mod Leaves
+pub mod Views
+pub mod Words
+pub mod Relation
+pub mod Changes
+pub mod Births
+pub mod Crossing
+pub mod Built
+pub mod Rules
+pub mod Values
+pub mod Touches
+pub mod Calls

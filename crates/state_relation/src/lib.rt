@@ -1,0 +1,20 @@
+//! The relation between what the source means and what the machine holds.
+//!
+//! A run of the source is seen as a `View`, a fold of its trace: which calls run, and where each variable has its home. A
+//! home is a place that never moves: so many words below the stack's upper end, or so many words from the heap's first one
+//! on (`specs/Views`). `Good` says that a store of the machine stands for the world of the source, and has four parts
+//! (`specs/Relation`): what is known of homes whatever the store is (`Homed`), the words of variables (`Cells`), the other
+//! words of frames, which are what temps keep, return places and links (`Framed`), and lengths (`Sized`). Only the last
+//! three name a store, so a change of other words, or of the stack's place, leaves the first as it is.
+//!
+//! Words are told by their types: a value is its words side by side, each of which has a type of one word (`specs/Leaves`),
+//! and stands for a content of that type. A temp keeps such a word, or the address of a part of a variable, which may still
+//! lack some words, or nothing that is needed.
+//!
+//! In `proofs/`, `Changes` says what temps keep, `Births` and `Crossing` how births, writes, calls and returns go on
+//! standing for the world. `Rules` has a place of the code that a trace has come to (`At`): it speaks of all stores of which
+//! something holds, so that the lemma of a form of the source names no store; the next store of a step is a function of the
+//! one before. `Touches` says that a touch through an address comes to the home of the variable that it leads to.
+#![tactic(auto)]
+
+pub mod laws;
