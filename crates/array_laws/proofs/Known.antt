@@ -212,6 +212,7 @@ module _ (text : List ℕ) (first last : Scope) (formed : IsFormed first.types) 
   -- what is stated in the end was stated and known once it had entered
   pub stated_known : (s : Scope) (x : TreeEx) → Leads first s → Leads (entered text s x) last → (u : ValueType)
       → stated_type text last x ≡ Some u → StatedAs s x u
+  unfolding length_in
   stated_known s (name n) before behind u h =
       let word = spelled text n in
       let d = declaration first word in

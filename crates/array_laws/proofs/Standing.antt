@@ -122,6 +122,7 @@ module _ (text : List ℕ) (s h : Scope) (within : Within s h) where
   stated_name word d is u q = absurd (none_some q)
 
   stated_within : (x : TreeEx) (u : ValueType) → stated_type text s x ≡ Some u → stated_type text h x ≡ Some u
+  unfolding length_in
   stated_within (name n) u q = stated_name (spelled text n) (declaration s (spelled text n)) refl u q
   stated_within (paren at x) u q = stated_within x u q
   stated_within (array_type at l x) u q =

@@ -16,7 +16,8 @@ use Rattle.names.specs.declared.scope.Declared.TheVariants as declared
 use Rattle.names.specs.Scope.{Scope, declaration}
 use Rattle.names.specs.Types.{array_type}
 use Rattle.operand_parts.specs.ArrayTypes.{array_fault}
-use Rattle.expression_types.specs.Typing.{name_operand, stated_type}
+use Rattle.given_values.specs.Given.{name_operand}
+use Rattle.expression_types.specs.Typing.{stated_type}
 use Rattle.entered_types.specs.Entered.{length_in, entered_all}
 use Rattle.array_laws.specs.Occurs.{StandsInAll}
 

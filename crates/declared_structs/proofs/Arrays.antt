@@ -9,7 +9,7 @@ use Rattle.type_faults.proofs.Options.{and_then_some, map_some}
 use Rattle.struct_sizes.specs.Structs.{Prefixed, Fields}
 use Rattle.names.specs.Scope.{Scope, declaration}
 use Rattle.operand_parts.specs.ArrayTypes.{length_of}
-use Rattle.expression_types.specs.Typing.{operand_in, gives}
+use Rattle.expression_types.specs.Typing.{early_gives}
 use Rattle.type_tables.specs.Types.{AreArrays, AllArrays}
 use Rattle.declared_structs.specs.Forms.{base_in, plain, array_of, prefixed, field_types, struct_types, structs_in}
 use Rattle.declared_structs.specs.Faults.{type_specs_in}
@@ -30,7 +30,7 @@ module _ (text : List ℕ) (s : Scope) where
   prefixed_are (name n) t is = let b = map_some plain (base_in (declaration s (spelled text n))) t is in subst (λ (u : Prefixed). AreArrays u.prefixes) b.2 tt
   prefixed_are (paren at e) t is = prefixed_are e t is
   prefixed_are (array_type at len e) t is =
-      let a = and_then_some (λ n. option_map (array_of n) (prefixed text s e)) (option_and_then length_of (operand_in (gives text s len))) t is in
+      let a = and_then_some (λ n. option_map (array_of n) (prefixed text s e)) (option_and_then length_of (early_gives text s len)) t is in
       let b = map_some (array_of a.0) (prefixed text s e) t a.2 in
       subst (λ (u : Prefixed). AreArrays u.prefixes) b.2 (prefixed_are e b.0 b.1)
   prefixed_are e t is = absurd cc is

@@ -14,7 +14,7 @@ use Rattle.names.specs.declared.scope.Declared.{Declared}
 use Rattle.names.specs.declared.scope.Declared.TheVariants as declared
 use Rattle.names.specs.Scope.{Scope, declaration}
 use Rattle.operand_parts.specs.ArrayTypes.{length_of}
-use Rattle.expression_types.specs.Typing.{operand_in, gives}
+use Rattle.expression_types.specs.Typing.{early_gives}
 
 -- what a type begins from that has a name
 abbrev pub base_of : ValueType → Option Base
@@ -37,7 +37,7 @@ array_of n t = record { prefixes = Array n ∷ t.prefixes; base = t.base }
 module _ (text : List ℕ) (s : Scope) where
   -- the length of arrays that an expression is
   abbrev pub length_in : TreeEx → Option ℕ
-  length_in e = option_and_then length_of (operand_in (gives text s e))
+  length_in e = option_and_then length_of (early_gives text s e)
 
   -- the type that an expression states, by the constants and the names of a scope, whatever words it has: an array type whose length is known,
   -- or the name of a type

@@ -11,7 +11,7 @@ ghost use Rattle.declared_structs.specs.Forms.{base_of, base_in, length_in, pref
 ghost use Rattle.declared_structs.specs.Passing.{view, views, prefixed_after, with_names, with_field, with_specs};
 
 use base::{NoMemory, ValueType};
-use expression_types::check_single;
+use expression_types::check_early;
 use names::{Declared, Scope, spelled};
 use operand_parts::length_of;
 use std::alloc::Global;
@@ -58,7 +58,7 @@ fn length_in(
 ) -> Result<Option<u64>, NoMemory>
     ensures { IfOk result (λ n. n ≡ length_in text.now (scope_of scope.now) (tree_of length.now)) }
 {
-    let single = check_single(alloc, text, scope, length)?;
+    let single = check_early(alloc, text, scope, length)?;
     match &single.operand {
         Some(operand) => Ok(length_of(operand)),
         None => Ok(None),

@@ -12,7 +12,7 @@ use Rattle.typed.specs.Formed.{refusal, KeepsTrees}
 use Rattle.names.specs.Scope.{Scope, declaration}
 use Rattle.names.specs.Types.{declared_type}
 use Rattle.operand_parts.specs.ArrayTypes.{length_of, array_with}
-use Rattle.expression_types.specs.Typing.{gives, operand_in}
+use Rattle.expression_types.specs.Typing.{early_gives}
 
 -- a table with a type, unless it refuses that
 abbrev pub admitted : Table → ValueType → Table
@@ -37,8 +37,8 @@ with_array_in s n t = record s { types = with_array s.types n t }
 
 module _ (text : List ℕ) where
   -- the length of arrays that an expression is
-  abbrev pub length_in : Scope → TreeEx → Option ℕ
-  length_in s e = option_and_then length_of (operand_in (gives text s e))
+  unfoldable pub length_in : Scope → TreeEx → Option ℕ
+  length_in s e = option_and_then length_of (early_gives text s e)
 
   -- ---- expressions and types
 

@@ -12,7 +12,7 @@ ghost use Rattle.entered_types.specs.Entered.{entered_elements, entered_some};
 ghost use Rattle.expression_types.specs.Passing.{element_value};
 
 use base::{NoMemory, ValueType};
-use expression_types::check_single;
+use expression_types::check_early;
 use names::{Scope, declared_type, spelled};
 use operand_parts::{array_with, length_of};
 use operators::Operand;
@@ -133,6 +133,7 @@ fn enter_type(
 
 /// Enters the array types in the length of an array type, and answers the length.
 #[cycle(entering)]
+#[tactic(auto, unfolding(crate::specs::Entered::length_in))]
 fn enter_length(
     alloc: Global,
     text: &[u8],
@@ -144,7 +145,7 @@ fn enter_length(
         (λ n. n ≡ length_in text.now (entered text.now (scope_of scope.old) (tree_of e.now)) (tree_of e.now)) }
 {
     enter_expr(alloc, text, scope, e)?;
-    let checked = check_single(alloc, text, scope, e)?;
+    let checked = check_early(alloc, text, scope, e)?;
     Ok(length_in(&checked.operand))
 }
 

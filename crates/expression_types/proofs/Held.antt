@@ -1,5 +1,5 @@
 -- Constants that an expression gives are held by their types, where those of the scope are.
-use Rattle.std.proofs.Common.{◌≡◌, ℕ, ◌^◌, pos, Bool, true, false, cond, List, [], ◌∷◌, Option, Some, None, refl, subst}
+use Rattle.std.proofs.Common.{◌≡◌, ℕ, ◌^◌, pos, Bool, true, false, cond, List, Option, Some, None, refl, subst}
 use Rattle.std.specs.Prelude.{option_and_then, nat_lt}
 use Rattle.std.specs.Option.{option_map}
 use Rattle.base.specs.declared.pos.Pos.{Pos}
@@ -7,7 +7,6 @@ use Rattle.syntax.specs.declared.operator.BinOp.{BinOp}
 use Rattle.syntax.specs.declared.operator.UnOp.{UnOp}
 use Rattle.syntax.specs.FirstBytes.{first_pos}
 use Rattle.syntax.specs.Expressions.{Ex as TreeEx, number, string, name, unary, binary, paren, call, selector, index, slice, array_type, slice_type, literal, elements, Elements as TreeElements, spelled}
-use Rattle.typed_syntax.specs.Syntax.{Ex, Exs}
 use Rattle.constants.specs.declared.constant.Constant.TheVariants.{Number}
 use Rattle.base.specs.declared.value_type.ValueType.{ValueType}
 use Rattle.constants.specs.Constants.{untyped}
@@ -24,11 +23,9 @@ use Rattle.operand_parts.specs.LiteralValues.{Placed, part_values, literal_with,
 use Rattle.operand_parts.proofs.HeldParts.{selected_held, indexed_held}
 use Rattle.names.specs.Scope.{Scope, declaration}
 use Rattle.names.specs.Naming.{name_in}
-use Rattle.expression_types.specs.Typing.{Part, one, called, asking, printed, name_operand, prefix_gives, pair_gives, operand_in, Seen, parts, values, fits, taken, Callee, printer, panicker, reader, exiter, function, conversion, no_function, no_spread, no_text_spread, nothing, exit_places, panicked_with, exited_with, called_with, spread_over, callee, gives, seen, stated_type, placed, literal_given}
-
-single_one : (o : Option Operand) (P : Operand → Type 0) (x : Operand) → ((y : Operand) → o ≡ Some y → P y) → operand_in (option_map one o) ≡ Some x → P x
-single_one None P x held is = absurd (none_some is)
-single_one (Some y) P x held is = held x is
+use Rattle.given_values.specs.Given.{one, name_operand, prefix_gives, pair_gives, operand_in, spread_over, callee, Seen, Callee, called_with}
+use Rattle.expression_types.specs.Typing.{gives, seen, stated_type, placed, literal_given, are_quiet, called_quietly}
+use Rattle.given_values.proofs.HeldCalls.{single_one, call_held}
 
 prefix_held : (op : UnOp) (b : Bool) (a : Option Operand) (x : Operand) → operand_in (prefix_gives op b a) ≡ Some x → IsHeld x
 prefix_held op false a x is = absurd (none_some is)
@@ -53,47 +50,12 @@ literal_held text s None es qs x is = absurd (none_some is)
 literal_held text s (Some t) es qs x is =
     single_one (composed s.types t (shape_fits text s t es) qs) IsHeld x (λ y e. let m = map_some (literal_with s.types t) (allowed (shape_fits text s t es) (part_values qs)) y e in subst IsHeld m.2 tt) is
 
--- a call gives no constant: one result of a function, or no single value
-called_held : (at : Pos) (ts : List ValueType) (f : ℕ) (es : Exs) (x : Operand) → operand_in (Some (called at ts f es)) ≡ Some x → IsHeld x
-called_held at [] f es x is = absurd (none_some is)
-called_held at (t ∷ []) f es x is = subst IsHeld (same_some is) tt
-called_held at (t ∷ u ∷ ts) f es x is = absurd (none_some is)
-
-call_held : (at : Pos) (k : Callee) (os : List Seen) (x : Operand) → operand_in (called_with at k os) ≡ Some x → IsHeld x
-call_held at (printer line) os x is = by (parts os) is
+quietly_held : (at : Pos) (k : Callee) (os : List Seen) (x : Operand) → operand_in (called_quietly at k os) ≡ Some x → IsHeld x
+quietly_held at k os x is = by (are_quiet k os) is
   where
-    by : (o : Option (List Part)) → operand_in (option_map (printed at line) o) ≡ Some x → IsHeld x
-    by None e = absurd (none_some e)
-    by (Some ps) e = absurd (none_some e)
-call_held at panicker os x is = by (parts os) is
-  where
-    by : (o : Option (List Part)) → operand_in (option_and_then (panicked_with at) o) ≡ Some x → IsHeld x
-    by None e = absurd (none_some e)
-    by (Some []) e = absurd (none_some e)
-    by (Some (p ∷ [])) e = absurd (none_some e)
-    by (Some (p ∷ q ∷ ps)) e = absurd (none_some e)
-call_held at reader os x is = by (fits [] os) is
-  where
-    by : (b : Bool) → operand_in (allowed b (Some (asking at))) ≡ Some x → IsHeld x
-    by true e = absurd (none_some e)
+    by : (b : Bool) → operand_in (allowed b (called_with at k os)) ≡ Some x → IsHeld x
+    by true e = call_held at k os x e
     by false e = absurd (none_some e)
-call_held at exiter os x is = by (allowed (fits exit_places os) (values os)) is
-  where
-    by : (o : Option (List Ex)) → operand_in (option_and_then (exited_with at) o) ≡ Some x → IsHeld x
-    by None e = absurd (none_some e)
-    by (Some []) e = absurd (none_some e)
-    by (Some (y ∷ [])) e = absurd (none_some e)
-    by (Some (y ∷ z ∷ ys)) e = absurd (none_some e)
-call_held at (function f ps ts) os x is = by (taken ps os) is
-  where
-    by : (o : Option Exs) → operand_in (option_map (called at ts f) o) ≡ Some x → IsHeld x
-    by None e = absurd (none_some e)
-    by (Some es) e = called_held at ts f es x e
-call_held at conversion os x is = absurd (none_some is)
-call_held at no_function os x is = absurd (none_some is)
-call_held at no_spread os x is = absurd (none_some is)
-call_held at no_text_spread os x is = absurd (none_some is)
-call_held at nothing os x is = absurd (none_some is)
 
 module _ (text : List ℕ) (s : Scope) (names_held : (n : List ℕ) (x : Operand) → name_operand s (declaration s n) ≡ Some x → IsHeld x) where
   -- the one value of an expression
@@ -108,7 +70,7 @@ module _ (text : List ℕ) (s : Scope) (names_held : (n : List ℕ) (x : Operand
   operand_held (unary at op e) x is = prefix_held op (has_rules op) (operand_in (gives text s e)) x is
   operand_held (binary at op a b) x is = binary_held at op (operand_in (gives text s a)) (operand_in (gives text s b)) x is
   operand_held (paren at e) x is = operand_held e x is
-  operand_held (call f es spread) x is = call_held (first_pos f) (spread_over spread (callee text s (name_in f) (gives text s f))) (seen text s es) x is
+  operand_held (call f es spread) x is = quietly_held (first_pos f) (spread_over spread (callee text s (name_in f) (gives text s f))) (seen text s es) x is
   operand_held (selector e at n) x is = selector_held text s n (operand_in (gives text s e)) x is
   operand_held (index e at i) x is = index_held s.types at (operand_in (gives text s e)) (operand_in (gives text s i)) x is
   operand_held (slice e at low high) x is = absurd (none_some is)

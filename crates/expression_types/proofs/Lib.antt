@@ -1,7 +1,6 @@
-pub mod DecidedValues
+pub mod Early
 pub mod Held
 pub mod InForm
-pub mod Items
 pub mod Nodes
 pub mod Settled
 pub mod Places

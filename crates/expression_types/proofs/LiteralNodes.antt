@@ -21,8 +21,9 @@ use Rattle.operand_parts.specs.Literals.{type_elided, elided, element_part}
 use Rattle.operand_parts.specs.LiteralFaults.{elision_fault, ShapeFails}
 use Rattle.operand_parts.specs.LiteralValues.{Placed, ElementsFail}
 use Rattle.operand_parts.specs.Passing.{placed_of, placeds}
-use Rattle.expression_types.specs.Typing.{operand_in, gives, stated_type, placed, element_gives}
-use Rattle.expression_types.specs.Faults.{Fails, FailsAsOperand, StatedFails, FailsInElements, FailsInLiteral, FailsInElement}
+use Rattle.given_values.specs.Given.{operand_in}
+use Rattle.expression_types.specs.Typing.{gives, stated_type, placed, element_gives, early_gives}
+use Rattle.expression_types.specs.Faults.{Fails, FailsAsOperand, StatedFails, FailsInElements, FailsInLiteral, FailsInElement, FailsEarly}
 use Rattle.expression_types.specs.Passing.{key_in, element_value, is_bare, IsLiteralFault}
 
 module _ (text : List ℕ) (s : Scope) where
@@ -117,19 +118,19 @@ module _ (text : List ℕ) (s : Scope) where
   elided_least at t es f d =
       least_join (IsFault (elision_fault at (elided s.types t))) (FailsInLiteral text s at (type_elided (elided s.types t)) es) (elision_fault at (elided s.types t)) f (leaf (elision_fault at (elided s.types t))) d
 
-  pub array_least : (at : Pos) (len e : TreeEx) (f g : Option Fault) (o : Option Operand) (u : Option ValueType) → IsLeast (FailsAsOperand text s len) f → IsLeast (StatedFails text s e) g
-      → o ≡ operand_in (gives text s len) → u ≡ stated_type text s e
+  pub array_least : (at : Pos) (len e : TreeEx) (f g : Option Fault) (o : Option Operand) (u : Option ValueType) → IsLeast (FailsEarly text s len) f → IsLeast (StatedFails text s e) g
+      → o ≡ early_gives text s len → u ≡ stated_type text s e
       → IsLeast (StatedFails text s (array_type at len e)) (lesser (lesser f g) (lesser (length_fault (first_pos len) o) (array_fault s.types at (option_and_then length_of o) u)))
   array_least at len e f g o u a b o_is u_is =
       let R : Option Operand → Option ValueType → Option Fault = λ p v. lesser (length_fault (first_pos len) p) (array_fault s.types at (option_and_then length_of p) v) in
       let W : Option Operand → Option ValueType → Fault → Type 0 =
-      λ p v k. (FailsAsOperand text s len k ⊎ StatedFails text s e k) ⊎ (IsFault (length_fault (first_pos len) p) k ⊎ IsFault (array_fault s.types at (option_and_then length_of p) v) k) in
+      λ p v k. (FailsEarly text s len k ⊎ StatedFails text s e k) ⊎ (IsFault (length_fault (first_pos len) p) k ⊎ IsFault (array_fault s.types at (option_and_then length_of p) v) k) in
       let both : IsLeast (W o u) (lesser (lesser f g) (R o u)) =
-      least_join (λ k. FailsAsOperand text s len k ⊎ StatedFails text s e k) (λ k. IsFault (length_fault (first_pos len) o) k ⊎ IsFault (array_fault s.types at (option_and_then length_of o) u) k) (lesser f g) (R o u)
-      (least_join (FailsAsOperand text s len) (StatedFails text s e) f g a b)
+      least_join (λ k. FailsEarly text s len k ⊎ StatedFails text s e k) (λ k. IsFault (length_fault (first_pos len) o) k ⊎ IsFault (array_fault s.types at (option_and_then length_of o) u) k) (lesser f g) (R o u)
+      (least_join (FailsEarly text s len) (StatedFails text s e) f g a b)
       (least_join (IsFault (length_fault (first_pos len) o)) (IsFault (array_fault s.types at (option_and_then length_of o) u)) (length_fault (first_pos len) o) (array_fault s.types at (option_and_then length_of o) u)
       (leaf (length_fault (first_pos len) o)) (leaf (array_fault s.types at (option_and_then length_of o) u))) in
-      subst (λ (v : Option ValueType). IsLeast (W (operand_in (gives text s len)) v) (lesser (lesser f g) (R o u))) u_is
+      subst (λ (v : Option ValueType). IsLeast (W (early_gives text s len) v) (lesser (lesser f g) (R o u))) u_is
       (subst (λ (p : Option Operand). IsLeast (W p u) (lesser (lesser f g) (R o u))) o_is both)
 
 -- one more placed element, in front of those to come

@@ -17,8 +17,10 @@ use Rattle.operators.specs.Faults.{prefix_fault, pair_fault}
 use Rattle.operand_parts.specs.PartFaults.{selector_fault, index_fault}
 use Rattle.names.specs.Scope.{Scope}
 use Rattle.names.specs.Naming.{name_in}
-use Rattle.expression_types.specs.Typing.{Seen, Callee, operand_in, callee, spread_over, gives, seen}
-use Rattle.expression_types.specs.Faults.{WhereTaken, condition_fault, CallFails, CalleeFails, Fails, FailsInEach, FailsAsOperand, FailsInCondition}
+use Rattle.given_values.specs.Given.{Seen, Callee, operand_in, callee, spread_over}
+use Rattle.expression_types.specs.Typing.{call_in, gives, seen}
+use Rattle.given_values.specs.GivenFaults.{condition_fault, CallFails, CalleeFails}
+use Rattle.expression_types.specs.Faults.{WhereTaken, Fails, FailsInEach, FailsAsOperand, FailsEarly, FailsInCondition, quiet_fault, early_fault}
 
 taken_least : (b : Bool) (P Q : Fault → Type 0) (f : Option Fault) → b ≡ true → IsLeast P f → IsLeast (WhereTaken b P Q) f
 taken_least true P Q f is least = least
@@ -74,14 +76,21 @@ module _ (text : List ℕ) (s : Scope) where
       → o ≡ operand_in (gives text s a) → p ≡ operand_in (gives text s b) → IsLeast (Fails text s (index a bracket b)) (lesser (lesser f g) (index_fault s.types (first_pos a) o p))
   index_least bracket a b f g o p left right o_is p_is = two_least (index_fault s.types (first_pos a)) a b f g o p left right o_is p_is
 
-  pub call_least : (g : TreeEx) (es : TreeExs) (spread : Bool) (k : Callee) (os : List Seen) (a b : Option Fault) (f : Option Fault)
-      → k ≡ spread_over spread (callee text s (name_in g) (gives text s g)) → os ≡ seen text s es
-      → IsLeast (CalleeFails text s (name_in g) (λ h. Fails text s g h) (gives text s g)) a → IsLeast (FailsInEach text s es) b → IsLesserWith (CallFails (first_pos g) k os) (lesser a b) f
+  pub call_least : (g : TreeEx) (es : TreeExs) (spread : Bool) (k : Callee) (os : List Seen) (a b inner : Option Fault) (f : Option Fault)
+      → k ≡ spread_over spread (callee text s (name_in g) (gives text s g)) → os ≡ seen text s es → inner ≡ quiet_fault text s k es os
+      → IsLeast (CalleeFails text s (name_in g) (λ h. Fails text s g h) (gives text s g)) a → IsLeast (FailsInEach text s es) b
+      → IsLesserWith (λ h. CallFails (first_pos g) k os h ⊎ IsFault inner h) (lesser a b) f
       → IsLeast (Fails text s (call g es spread)) f
-  call_least g es spread k os a b f k_is os_is called listed own =
+  call_least g es spread k os a b inner f k_is os_is inner_is called listed own =
       let C = CalleeFails text s (name_in g) (λ h. Fails text s g h) (gives text s g) in
       let K = spread_over spread (callee text s (name_in g) (gives text s g)) in
-      let own1 = subst (λ (k1 : Callee). IsLeast (CallFails (first_pos g) k1 os) own.0) k_is own.1 in
-      let own2 = subst (λ (os1 : List Seen). IsLeast (CallFails (first_pos g) K os1) own.0) os_is own1 in
+      let U : Callee → List Seen → Fault → Type 0 = λ k1 os1 h. CallFails (first_pos g) k1 os1 h ⊎ IsFault (quiet_fault text s k1 es os1) h in
+      let own0 = subst (λ (x : Option Fault). IsLeast (λ h. CallFails (first_pos g) k os h ⊎ IsFault x h) own.0) inner_is own.1 in
+      let own1 = subst (λ (k1 : Callee). IsLeast (U k1 os) own.0) k_is own0 in
+      let own2 = subst (λ (os1 : List Seen). IsLeast (U K os1) own.0) os_is own1 in
       subst (λ (h : Option Fault). IsLeast (Fails text s (call g es spread)) h) (sym own.2)
-      (least_join (λ h. C h ⊎ FailsInEach text s es h) (CallFails (first_pos g) K (seen text s es)) (lesser a b) own.0 (least_join C (FailsInEach text s es) a b called listed) own2)
+      (least_join (λ h. C h ⊎ FailsInEach text s es h) (U K (seen text s es)) (lesser a b) own.0 (least_join C (FailsInEach text s es) a b called listed) own2)
+
+  pub length_least : (e : TreeEx) (f : Option Fault) (o : Option Operand) → IsLeast (FailsAsOperand text s e) f → o ≡ operand_in (gives text s e)
+      → IsLeast (FailsEarly text s e) (lesser f (early_fault (call_in e) o))
+  length_least e f o least is = operand_least (early_fault (call_in e)) e f o least is

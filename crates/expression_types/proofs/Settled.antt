@@ -1,6 +1,6 @@
 -- Where every variable has a type, every constant a value and every function a signature, an expression gives something, or a rule fails in it, and never both.
 use Rattle.std.proofs.Common.{◌≡◌, ℕ, ◌+◌, ◌^◌, pos, Bool, true, false, cond, List, ◌⊎◌, inl, inr, Option, Some, None, refl, sym, subst, ◌∷◌}
-use Rattle.std.specs.Prelude.{option_and_then, nat_lt}
+use Rattle.std.specs.Prelude.{option_and_then, nat_lt, not}
 use Rattle.std.specs.Option.{option_map}
 use Rattle.base.specs.declared.pos.Pos.{Pos}
 use Rattle.syntax.specs.declared.operator.UnOp.{UnOp}
@@ -9,21 +9,20 @@ use Rattle.syntax.specs.FirstBytes.{first_pos}
 use Rattle.syntax.specs.Expressions.{Ex as TreeEx, Exs as TreeExs, number, string, name, unary, binary, paren, call, selector, index, slice, array_type, slice_type, literal, elements, some, Elements as TreeElements, no_elements, element, spelled}
 use Rattle.syntax.specs.Expressions as tree
 use Rattle.type_faults.specs.declared.fault.Fault.{Fault}
-use Rattle.type_faults.specs.declared.fault.FaultKind.TheVariants.{NotCallable, WrongCount, ConstRange, Unfit, OutOfProfile}
+use Rattle.type_faults.specs.declared.fault.FaultKind.TheVariants.{ConstRange, Unfit, OutOfProfile}
 use Rattle.constants.specs.declared.constant.Constant.{Constant}
 use Rattle.constants.specs.declared.constant.Constant.TheVariants.{Number, Truth}
 use Rattle.base.specs.declared.value_type.ValueType.{ValueType}
 use Rattle.base.specs.declared.value_type.ValueType.TheVariants.{Int, Bool as Boolean, Struct, Array}
-use Rattle.base.specs.Types.{same_type}
-use Rattle.constants.specs.Constants.{untyped, constant_type}
+use Rattle.constants.specs.Constants.{untyped}
 use Rattle.type_faults.specs.Given.{allowed, both}
 use Rattle.type_faults.specs.Faults.{fault, IsFault, FormFails}
-use Rattle.type_faults.proofs.Decided.{Decided, further, same, mapped, after}
+use Rattle.type_faults.proofs.Decided.{Decided, further, same, mapped, after, Tested}
 use Rattle.type_faults.proofs.Options.{and_then_some, none_some, same_some}
-use Rattle.operators.specs.Operands.{Operand, constant, value, nil, constant_value}
+use Rattle.operators.specs.Operands.{Operand, constant, value, nil}
 use Rattle.operators.specs.Operators.{has_rules, prefixed, combined}
 use Rattle.operators.specs.Faults.{prefix_fault}
-use Rattle.operators.proofs.Held.{IsHeld, held_type}
+use Rattle.operators.proofs.Held.{IsHeld}
 use Rattle.operators.proofs.DecidedOperators.{prefix_decided, one_decided, pair_decided}
 use Rattle.operand_parts.specs.Parts.{selected, indexed}
 use Rattle.operand_parts.specs.PartFaults.{selected_fault, selector_fault, indexed_fault, index_fault}
@@ -40,17 +39,17 @@ use Rattle.names.specs.declared.fields.Part.{Part}
 use Rattle.names.specs.Types.{is_known, declared_type, known_array, array_type as array_type_in}
 use Rattle.names.specs.declared.scope.Declared.{Declared}
 use Rattle.names.specs.declared.scope.Declared.TheVariants as declared
-use Rattle.names.specs.declared.scope.Known.{Known}
-use Rattle.names.specs.declared.scope.Known.TheVariants as known_as
-use Rattle.names.specs.declared.scope.External.TheVariants.{ReadInt, Exit}
-use Rattle.names.specs.Scope.{Scope, Signature, declaration, signature, known}
+use Rattle.names.specs.Scope.{Scope, declaration, known}
 use Rattle.names.specs.Naming.{name_in}
-use Rattle.names.proofs.Settled.{type_name_decided, HasSignature, IsKnown, IsTyped, IsSettled, declared_typed}
-use Rattle.expression_types.specs.Typing.{Gives, one, global_read, constant_read, name_operand, prefix_gives, operand_in, Seen, parts, taken, Callee, printer, panicker, reader, exiter, function, conversion, no_function, no_spread, no_text_spread, nothing, function_with, callee_declared, callee_value, spread_over, called_with, as_condition, callee, gives, seen, stated_type, placed, literal_given, condition, test}
-use Rattle.expression_types.specs.Faults.{WhereTaken, name_fault, callee_name_fault, single_fault, literal_fault, condition_fault, PrintFails, CallFails, CalleeFails, Fails, FailsInEach, StatedFails, FailsInElements, FailsInLiteral, FailsAsOperand, FailsInCondition, FailsInTest}
+use Rattle.names.proofs.Settled.{type_name_decided, IsSettled, declared_typed}
+use Rattle.given_values.specs.Given.{Gives, one, prefix_gives, operand_in, parts, spread_over, as_condition, callee, Seen, Callee, printer, panicker, measurer, reader, exiter, function, conversion, no_function, no_spread, no_text_spread, nothing, called_with}
+use Rattle.expression_types.specs.Typing.{gives, seen, stated_type, placed, literal_given, condition, test, is_quiet, call_in, early, are_quiet, early_gives}
+use Rattle.given_values.specs.GivenFaults.{single_fault, condition_fault, CalleeFails, CallFails}
+use Rattle.expression_types.specs.Faults.{WhereTaken, literal_fault, Fails, FailsInEach, StatedFails, FailsInElements, FailsInLiteral, FailsAsOperand, FailsInCondition, FailsInTest, FailsEarly, inner_fault, quiet_fault, early_fault}
 use Rattle.expression_types.proofs.Held.{operand_held}
-use Rattle.expression_types.proofs.Places.{AllAsk, asked_ask}
-use Rattle.expression_types.proofs.DecidedValues.{operand_decided, given_all, take_decided, print_decided, panic_decided, read_decided, exit_decided, refused as refused_values, parts_refused}
+use Rattle.given_values.proofs.DecidedValues.{operand_decided, given_all}
+use Rattle.given_values.proofs.DecidedCalls.{condition_value_decided, name_decided, name_held, CalleeIs, callee_value_is, callee_declared_is, spread_is, call_decided}
+use Rattle.operand_calls.specs.Calls.{has_call, call_pos}
 
 -- ---- numbers and conditions
 
@@ -60,74 +59,6 @@ literal_decided at n = by (nat_lt n (2 ^ 127))
     by : (b : Bool) → Decided (cond b (Some (one (constant (untyped (Number (pos n)))))) None) (IsFault (cond b None (Some (fault ConstRange at))))
     by true = λ f h. h
     by false = (_, refl)
-
--- a truth value that is held by its type is one
-condition_value_decided : (at : Pos) (x : Operand) → IsHeld x → Decided (as_condition x) (IsFault (condition_fault at (Some x)))
-condition_value_decided at (value Int x) held = (_, refl)
-condition_value_decided at (value Boolean x) held = λ f h. h
-condition_value_decided at (value (Struct k) x) held = (_, refl)
-condition_value_decided at (value (Array n e) x) held = (_, refl)
-condition_value_decided at nil held = (_, refl)
-condition_value_decided at (constant a) held = by (constant_type a.value_type a.value) a.value (held_type a.value_type a.value held)
-  where
-    by : (t : ValueType) (c : Constant) → t ≡ constant_type None c → Decided (allowed (same_type Boolean t) (constant_value c)) (IsFault (cond (same_type Boolean t) None (Some (fault Unfit at))))
-    by Int c same1 = (_, refl)
-    by Boolean (Truth b) same1 = λ f h. h
-    by Boolean (Number z) same1 = cc same1
-    by (Struct k) c same1 = (_, refl)
-    by (Array n e) c same1 = (_, refl)
-
--- ---- names
-
-constant_name_decided : (o : Option Known) → IsKnown o → Decided (option_map one (option_map constant_read o)) (IsFault None)
-constant_name_decided None has = absurd has
-constant_name_decided (Some f) has = λ g h. h
-
-global_name_decided : (g : ℕ) (o : Option Known) → IsKnown o → Decided (option_map one (option_map (global_read g) o)) (IsFault None)
-global_name_decided g None has = absurd has
-global_name_decided g (Some f) has = λ h k. k
-
-name_decided : (s : Scope) (d : Option Declared) (at : Pos) → ((x : Declared) → d ≡ Some x → IsTyped s.types s.signatures s.values x) → Decided (option_map one (name_operand s d)) (IsFault (name_fault d at))
-name_decided s None at typed = (_, refl)
-name_decided s (Some (declared.Variable site t)) at typed = λ f h. h
-name_decided s (Some declared.Untyped) at typed = absurd (typed declared.Untyped refl)
-name_decided s (Some (declared.Constant k)) at typed = constant_name_decided (known s k.0) (typed (declared.Constant k) refl)
-name_decided s (Some (declared.Global k g)) at typed = global_name_decided g.0 (known s k.0) (typed (declared.Global k g) refl)
-name_decided s (Some (declared.Function g)) at typed = (_, refl)
-name_decided s (Some (declared.External e place)) at typed = (_, refl)
-name_decided s (Some (declared.«Type» t)) at typed = (_, refl)
-name_decided s (Some (declared.Truth b)) at typed = λ f h. h
-name_decided s (Some declared.Nil) at typed = λ f h. h
-name_decided s (Some (declared.Print line)) at typed = (_, refl)
-name_decided s (Some declared.Panic) at typed = (_, refl)
-name_decided s (Some declared.LeftOutType) at typed = (_, refl)
-name_decided s (Some declared.LeftOutValue) at typed = (_, refl)
-
--- a constant that a name stands for is held by its type
-known_held : (o : Option Known) (x : Operand) → IsKnown o → option_map constant_read o ≡ Some x → IsHeld x
-known_held None x has is = absurd has
-known_held (Some (known_as.Constant f)) x has is = subst IsHeld (same_some is) has
-known_held (Some (known_as.Variable t)) x has is = subst IsHeld (same_some is) tt
-
-global_held : (g : ℕ) (o : Option Known) (x : Operand) → option_map (global_read g) o ≡ Some x → IsHeld x
-global_held g None x is = absurd (none_some is)
-global_held g (Some f) x is = subst IsHeld (same_some is) tt
-
-name_held : (s : Scope) (d : Option Declared) (x : Operand) → ((y : Declared) → d ≡ Some y → IsTyped s.types s.signatures s.values y) → name_operand s d ≡ Some x → IsHeld x
-name_held s None x typed is = absurd (none_some is)
-name_held s (Some (declared.Variable site t)) x typed is = subst IsHeld (same_some is) tt
-name_held s (Some declared.Untyped) x typed is = absurd (none_some is)
-name_held s (Some (declared.Constant k)) x typed is = known_held (known s k.0) x (typed (declared.Constant k) refl) is
-name_held s (Some (declared.Global k g)) x typed is = global_held g.0 (known s k.0) x is
-name_held s (Some (declared.Function g)) x typed is = absurd (none_some is)
-name_held s (Some (declared.External e place)) x typed is = absurd (none_some is)
-name_held s (Some (declared.«Type» t)) x typed is = absurd (none_some is)
-name_held s (Some (declared.Truth b)) x typed is = subst IsHeld (same_some is) refl
-name_held s (Some declared.Nil) x typed is = subst IsHeld (same_some is) tt
-name_held s (Some (declared.Print line)) x typed is = absurd (none_some is)
-name_held s (Some declared.Panic) x typed is = absurd (none_some is)
-name_held s (Some declared.LeftOutType) x typed is = absurd (none_some is)
-name_held s (Some declared.LeftOutValue) x typed is = absurd (none_some is)
 
 -- ---- parts
 
@@ -144,93 +75,54 @@ module _ (text : List ℕ) (s : Scope) where
 
 -- ---- calls
 
--- what is called has a type, or a rule says why not
-abbrev CalleeIs : Callee → (Fault → Type 0) → Type 0
-CalleeIs nothing C = (f : Fault) × C f
-CalleeIs (printer line) C = (f : Fault) → C f → ⊥
-CalleeIs panicker C = (f : Fault) → C f → ⊥
-CalleeIs reader C = (f : Fault) → C f → ⊥
-CalleeIs exiter C = (f : Fault) → C f → ⊥
-CalleeIs (function g ps ts) C = AllAsk ps × ((f : Fault) → C f → ⊥)
-CalleeIs conversion C = Unit {0}
-CalleeIs no_function C = (f : Fault) → C f → ⊥
-CalleeIs no_spread C = (f : Fault) → C f → ⊥
-CalleeIs no_text_spread C = (f : Fault) → C f → ⊥
-
-callee_value_is : (o : Option Operand) (P : Fault → Type 0) → Decided o P → CalleeIs (callee_value o) P
-callee_value_is None P d = d
-callee_value_is (Some x) P d = d
-
-callee_function_is : (f : ℕ) (sig : Option Signature) (C : Fault → Type 0) → HasSignature sig → ((g : Fault) → C g → ⊥) → CalleeIs (function_with f sig) C
-callee_function_is f None C has none = absurd has
-callee_function_is f (Some sig) C has none = (asked_ask sig.params, none)
-
-callee_constant_is : (o : Option Known) (C : Fault → Type 0) → IsKnown o → ((g : Fault) → C g → ⊥) → CalleeIs (callee_value (option_map constant_read o)) C
-callee_constant_is None C has none = absurd has
-callee_constant_is (Some f) C has none = none
-
-callee_global_is : (g : ℕ) (o : Option Known) (C : Fault → Type 0) → IsKnown o → ((f : Fault) → C f → ⊥) → CalleeIs (callee_value (option_map (global_read g) o)) C
-callee_global_is g None C has none = absurd has
-callee_global_is g (Some f) C has none = none
-
-callee_declared_is : (s : Scope) (d : Option Declared) (at : Pos) → ((x : Declared) → d ≡ Some x → IsTyped s.types s.signatures s.values x) → CalleeIs (callee_declared s d) (IsFault (callee_name_fault d at))
-callee_declared_is s None at typed = (_, refl)
-callee_declared_is s (Some (declared.Variable site t)) at typed = λ f h. h
-callee_declared_is s (Some declared.Untyped) at typed = absurd (typed declared.Untyped refl)
-callee_declared_is s (Some (declared.Constant k)) at typed = callee_constant_is (known s k.0) (IsFault (callee_name_fault (Some (declared.Constant k)) at)) (typed (declared.Constant k) refl) (λ f h. h)
-callee_declared_is s (Some (declared.Global k g)) at typed = callee_global_is g.0 (known s k.0) (IsFault (callee_name_fault (Some (declared.Global k g)) at)) (typed (declared.Global k g) refl) (λ f h. h)
-callee_declared_is s (Some (declared.Function g)) at typed = callee_function_is g.0 (signature s g.0) (IsFault (callee_name_fault (Some (declared.Function g)) at)) (typed (declared.Function g) refl) (λ f h. h)
-callee_declared_is s (Some (declared.External ReadInt place)) at typed = λ f h. h
-callee_declared_is s (Some (declared.External Exit place)) at typed = λ f h. h
-callee_declared_is s (Some (declared.«Type» t)) at typed = tt
-callee_declared_is s (Some (declared.Truth b)) at typed = λ f h. h
-callee_declared_is s (Some declared.Nil) at typed = λ f h. h
-callee_declared_is s (Some (declared.Print line)) at typed = λ f h. h
-callee_declared_is s (Some declared.Panic) at typed = λ f h. h
-callee_declared_is s (Some declared.LeftOutType) at typed = tt
-callee_declared_is s (Some declared.LeftOutValue) at typed = (_, refl)
-
-spread_is : (spread : Bool) (k : Callee) (C : Fault → Type 0) → CalleeIs k C → CalleeIs (spread_over spread k) C
-spread_is false k C is = is
-spread_is true (printer line) C is = is
-spread_is true panicker C is = is
-spread_is true reader C is = is
-spread_is true exiter C is = is
-spread_is true (function f ps ts) C is = is.1
-spread_is true conversion C is = is
-spread_is true no_function C is = is
-spread_is true no_spread C is = is
-spread_is true no_text_spread C is = is
-spread_is true nothing C is = is
-
-with_callee : {A : Type 0} (C E K : Fault → Type 0) (o : Option A) → ((f : Fault) → C f → ⊥) → Decided o (λ f. E f ⊎ K f) → Decided o (λ f. (C f ⊎ E f) ⊎ K f)
-with_callee C E K o none d = same (λ f. E f ⊎ K f) (λ f. (C f ⊎ E f) ⊎ K f) o (λ f h. elim h [ inl e ↦ inl (inr e) | inr k ↦ inr k ]) back d
+-- a call that gives something, or a call in what it doesn't evaluate
+quiet_decided : {A : Type 0} (b : Bool) (o : Option A) (P K U : Fault → Type 0) → Tested b U → Decided o (λ f. P f ⊎ K f) → Decided (allowed b o) (λ f. P f ⊎ (K f ⊎ U f))
+quiet_decided false o P K U t d = (t.0, inr (inr t.1))
+quiet_decided true o P K U t d = same (λ f. P f ⊎ K f) (λ f. P f ⊎ (K f ⊎ U f)) o (λ f h. elim h [ inl p ↦ inl p | inr k ↦ inr (inl k) ]) back d
   where
-    back : (f : Fault) → (C f ⊎ E f) ⊎ K f → E f ⊎ K f
-    back f (inl (inl c)) = absurd (none f c)
-    back f (inl (inr e)) = inl e
-    back f (inr k) = inr k
+    back : (f : Fault) → P f ⊎ (K f ⊎ U f) → P f ⊎ K f
+    back f (inl p) = inl p
+    back f (inr (inl k)) = inr k
+    back f (inr (inr u)) = absurd (t f u)
 
-refused_call : (C E K : Fault → Type 0) (f : Fault) → E f ⊎ K f → (C f ⊎ E f) ⊎ K f
-refused_call C E K f (inl h) = inl (inr h)
-refused_call C E K f (inr h) = inr h
+module _ (text : List ℕ) (s : Scope) where
+  inner_tested : (e : TreeEx) (o : Option Operand) → Tested (is_quiet o) (IsFault (inner_fault text s e o))
+  inner_tested e None = λ f h. h
+  inner_tested e (Some (constant c)) = λ f h. h
+  inner_tested e (Some nil) = λ f h. h
+  inner_tested e (Some (value Int x)) = λ f h. h
+  inner_tested e (Some (value Boolean x)) = λ f h. h
+  inner_tested e (Some (value (Struct k) x)) = λ f h. h
+  inner_tested e (Some (value (Array n t) x)) = by (has_call x)
+    where
+      by : (b : Bool) → Tested (not b) (IsFault (cond b (Some (fault OutOfProfile (call_pos text s e))) None))
+      by true = (_, refl)
+      by false = λ f h. h
 
-call_decided : (at : Pos) (k : Callee) (os : List Seen) (C E : Fault → Type 0) → CalleeIs k C → Decided (given_all os) E → Decided (called_with at k os) (λ f. (C f ⊎ E f) ⊎ CallFails at k os f)
-call_decided at (printer line) os C E c e =
-    with_callee C E (CallFails at (printer line) os) (called_with at (printer line) os) c (mapped _ (parts os) (λ f. E f ⊎ PrintFails at os f) (print_decided os E e at))
-call_decided at panicker os C E c e = with_callee C E (CallFails at panicker os) (called_with at panicker os) c (panic_decided os E e at (fault WrongCount at))
-call_decided at reader os C E c e = with_callee C E (CallFails at reader os) (called_with at reader os) c (read_decided os E e at (fault WrongCount at))
-call_decided at exiter os C E c e = with_callee C E (CallFails at exiter os) (called_with at exiter os) c (exit_decided os E e at (fault WrongCount at))
-call_decided at (function g ps ts) os C E c e =
-    with_callee C E (CallFails at (function g ps ts) os) (called_with at (function g ps ts) os) c.1
-    (mapped _ (taken ps os) (λ f. E f ⊎ CallFails at (function g ps ts) os f) (take_decided os E e _ ps c.0))
-call_decided at conversion os C E c e = (fault OutOfProfile at, inr refl)
-call_decided at no_function os C E c e = let u = refused_values os E e (fault NotCallable at) in (u.0, refused_call C E (CallFails at no_function os) u.0 u.1)
-call_decided at no_spread os C E c e = let u = refused_values os E e (fault Unfit at) in (u.0, refused_call C E (CallFails at no_spread os) u.0 u.1)
-call_decided at no_text_spread os C E c e = let u = parts_refused os E e (fault Unfit at) in (u.0, refused_call C E (CallFails at no_text_spread os) u.0 u.1)
-call_decided at nothing os C E c e = (c.0, inl (inl c.1))
+  quiet_tested : (k : Callee) (es : TreeExs) → Tested (are_quiet k (seen text s es)) (IsFault (quiet_fault text s k es (seen text s es)))
+  quiet_tested (measurer m) tree.none = λ f h. h
+  quiet_tested (measurer m) (some e tree.none) = inner_tested e (operand_in (gives text s e))
+  quiet_tested (measurer m) (some e (some e2 es)) = λ f h. h
+  quiet_tested (printer line) es = λ f h. h
+  quiet_tested panicker es = λ f h. h
+  quiet_tested reader es = λ f h. h
+  quiet_tested exiter es = λ f h. h
+  quiet_tested (function g ps ts) es = λ f h. h
+  quiet_tested conversion es = λ f h. h
+  quiet_tested no_function es = λ f h. h
+  quiet_tested no_spread es = λ f h. h
+  quiet_tested no_text_spread es = λ f h. h
+  quiet_tested nothing es = λ f h. h
 
 -- ---- types and composite literals
+
+-- an operand as the length of an array
+early_decided : (found : Option Pos) (o : Option Operand) (P : Fault → Type 0) → Decided o P → Decided (option_and_then (early found) o) (λ f. P f ⊎ IsFault (early_fault found o) f)
+early_decided found None P d = (d.0, inl d.1)
+early_decided None (Some (constant c)) P d = λ f h. elim h [ inl p ↦ d f p | inr k ↦ k ]
+early_decided (Some at) (Some (constant c)) P d = (_, inr refl)
+early_decided found (Some (value t x)) P d = λ f h. elim h [ inl p ↦ d f p | inr k ↦ k ]
+early_decided found (Some nil) P d = λ f h. elim h [ inl p ↦ d f p | inr k ↦ k ]
 
 -- an array type, by its length and the type of its elements
 array_stated : (T : Table) → IsFormed T → (bracket at : Pos) (o : Option Operand) (u : Option ValueType) (P Q : Fault → Type 0) → Decided o P → Decided u Q
@@ -273,6 +165,7 @@ named_known T (Some (declared.Truth b)) t is = absurd (none_some is)
 named_known T (Some declared.Nil) t is = absurd (none_some is)
 named_known T (Some (declared.Print line)) t is = absurd (none_some is)
 named_known T (Some declared.Panic) t is = absurd (none_some is)
+named_known T (Some (declared.Measure m)) t is = absurd (none_some is)
 named_known T (Some declared.LeftOutType) t is = absurd (none_some is)
 named_known T (Some declared.LeftOutValue) t is = absurd (none_some is)
 
@@ -286,7 +179,7 @@ array_known T n u t is =
 stated_known : (text : List ℕ) (s : Scope) (e : TreeEx) (t : ValueType) → stated_type text s e ≡ Some t → IsKnownType s.types t
 stated_known text s (name n) t is = named_known s.types (declaration s (spelled text n)) t is
 stated_known text s (paren at e) t is = stated_known text s e t is
-stated_known text s (array_type at len e) t is = array_known s.types (option_and_then length_of (operand_in (gives text s len))) (stated_type text s e) t is
+stated_known text s (array_type at len e) t is = array_known s.types (option_and_then length_of (early_gives text s len)) (stated_type text s e) t is
 stated_known text s (number at k) t is = absurd (none_some is)
 stated_known text s (string at behind) t is = absurd (none_some is)
 stated_known text s (unary at op e) t is = absurd (none_some is)
@@ -443,8 +336,14 @@ module _ (text : List ℕ) (s : Scope) (settled : IsSettled s) where
         (operand_decided (gives text s a) (Fails text s a) (gives_decided a)) (operand_decided (gives text s b) (Fails text s b) (gives_decided b)))
     gives_decided (paren at e) = gives_decided e
     gives_decided (call g es spread) =
-        call_decided (first_pos g) (spread_over spread (callee text s (name_in g) (gives text s g))) (seen text s es) (CalleeFails text s (name_in g) (λ f. Fails text s g f) (gives text s g)) (FailsInEach text s es)
-        (spread_is spread (callee text s (name_in g) (gives text s g)) (CalleeFails text s (name_in g) (λ f. Fails text s g f) (gives text s g)) (callee_is (name_in g) (gives text s g) (λ f. Fails text s g f) (gives_decided g))) (seen_decided es)
+        quiet_decided (are_quiet (spread_over spread (callee text s (name_in g) (gives text s g))) (seen text s es))
+        (called_with (first_pos g) (spread_over spread (callee text s (name_in g) (gives text s g))) (seen text s es))
+        (λ f. CalleeFails text s (name_in g) (λ h. Fails text s g h) (gives text s g) f ⊎ FailsInEach text s es f)
+        (λ f. CallFails (first_pos g) (spread_over spread (callee text s (name_in g) (gives text s g))) (seen text s es) f)
+        (λ f. IsFault (quiet_fault text s (spread_over spread (callee text s (name_in g) (gives text s g))) es (seen text s es)) f)
+        (quiet_tested text s (spread_over spread (callee text s (name_in g) (gives text s g))) es)
+        (call_decided (first_pos g) (spread_over spread (callee text s (name_in g) (gives text s g))) (seen text s es) (CalleeFails text s (name_in g) (λ f. Fails text s g f) (gives text s g)) (FailsInEach text s es)
+        (spread_is spread (callee text s (name_in g) (gives text s g)) (CalleeFails text s (name_in g) (λ f. Fails text s g f) (gives text s g)) (callee_is (name_in g) (gives text s g) (λ f. Fails text s g f) (gives_decided g))) (seen_decided es))
     gives_decided (string at behind) = λ f h. h
     gives_decided (selector e at n) =
         mapped one (option_and_then (selected text s n) (operand_in (gives text s e))) (λ g. Fails text s (selector e at n) g)
@@ -463,8 +362,8 @@ module _ (text : List ℕ) (s : Scope) (settled : IsSettled s) where
     stated_decided (name n) = type_name_decided s (declaration s (spelled text n)) n.pos (λ x is. declared_typed s settled (spelled text n) x is)
     stated_decided (paren at e) = stated_decided e
     stated_decided (array_type at len e) =
-        array_stated s.types settled.formed at (first_pos len) (operand_in (gives text s len)) (stated_type text s e) (FailsAsOperand text s len) (StatedFails text s e)
-        (operand_decided (gives text s len) (Fails text s len) (gives_decided len)) (stated_decided e)
+        array_stated s.types settled.formed at (first_pos len) (early_gives text s len) (stated_type text s e) (FailsEarly text s len) (StatedFails text s e)
+        (early_decided (call_in len) (operand_in (gives text s len)) (FailsAsOperand text s len) (operand_decided (gives text s len) (Fails text s len) (gives_decided len))) (stated_decided e)
     stated_decided (number at k) = (fault OutOfProfile at, refl)
     stated_decided (string at behind) = (fault OutOfProfile at, refl)
     stated_decided (unary at op e) = (fault OutOfProfile at, refl)

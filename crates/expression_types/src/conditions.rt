@@ -8,8 +8,10 @@ ghost use Rattle.typed.specs.View.{ex_of, test_of};
 ghost use Rattle.type_faults.specs.Least.{IsLeast};
 ghost use Rattle.operators.specs.Passing.{operand_of};
 ghost use Rattle.names.specs.Scope.{scope_of};
-ghost use Rattle.expression_types.specs.Typing.{as_condition, condition_in, condition, test};
-ghost use Rattle.expression_types.specs.Faults.{condition_fault, FailsInCondition, FailsInTest};
+ghost use Rattle.given_values.specs.Given.{as_condition};
+ghost use Rattle.expression_types.specs.Typing.{condition_in, condition, test};
+ghost use Rattle.given_values.specs.GivenFaults.{condition_fault};
+ghost use Rattle.expression_types.specs.Faults.{FailsInCondition, FailsInTest};
 
 use crate::expressions::check_single;
 use base::{NoMemory, Pos, ValueType};

@@ -6,7 +6,7 @@ ghost use Rattle.string_value.specs.StringValue.{string_value};
 ghost use Rattle.syntax.specs.FirstBytes.{first_pos};
 ghost use Rattle.syntax.specs.Expressions.{ex_of as tree_of, exs_of as trees_of, elements_of, name as name_of, unary, selector as selector_of};
 ghost use Rattle.type_faults.specs.Least.{IsLeast, IsLesserWith, lesser as least};
-ghost use Rattle.type_faults.specs.Faults.{FormFails};
+ghost use Rattle.type_faults.specs.Faults.{IsFault, FormFails};
 ghost use Rattle.type_faults.specs.Given.{both};
 ghost use Rattle.operand_parts.specs.Parts.{indexed};
 ghost use Rattle.operand_parts.specs.PartFaults.{index_fault};
@@ -16,20 +16,23 @@ ghost use Rattle.operators.specs.Faults.{pair_fault};
 ghost use Rattle.operators.specs.Passing.{operand_of};
 ghost use Rattle.names.specs.Scope.{scope_of};
 ghost use Rattle.names.specs.Naming.{between, name_in};
-ghost use Rattle.expression_types.specs.Typing.{one as one_gives, quoted as quoted_gives, pair_gives, spread_over, called_with, operand_in, callee, gives, stated_type, literal_gives, placed, element_gives, seen};
-ghost use Rattle.expression_types.specs.Faults.{CallFails, Fails, FailsInEach, FailsAsOperand, CalleeFails, StatedFails, FailsInLiteral, FailsInElements, FailsInElement, literal_fault, single_fault};
-ghost use Rattle.expression_types.specs.Passing.{gives_of, seens, callee_of, element_value, is_bare, literal_operand};
+ghost use Rattle.given_values.specs.Given.{one as one_gives, quoted as quoted_gives, pair_gives, spread_over, operand_in, callee};
+ghost use Rattle.expression_types.specs.Typing.{called_quietly, early_gives, gives, stated_type, literal_gives, placed, element_gives, seen};
+ghost use Rattle.given_values.specs.GivenFaults.{CallFails, CalleeFails, single_fault};
+ghost use Rattle.expression_types.specs.Faults.{FailsEarly, Fails, FailsInEach, FailsAsOperand, StatedFails, FailsInLiteral, FailsInElements, FailsInElement, literal_fault};
+ghost use Rattle.given_values.specs.Passing.{gives_of, seens, callee_of};
+ghost use Rattle.expression_types.specs.Passing.{element_value, is_bare, literal_operand};
 
-use crate::calls::{
-    call_fault, call_value, callee_name_fault, callee_named, callee_value, spread_over,
-};
-use crate::gives::{Callee, Gives, Item, one_operand, single_fault};
 use crate::literals::{
     PlacedList, Stated, array_of, key_of, literal_of, next_number, stated_name, typed_literal,
 };
-use crate::naming::{name_fault, name_value};
+use crate::measures::{are_quiet, call_in, early, quiet_fault, quietly};
 use base::{NoMemory, Pos, ValueType};
 use constants::{Constant, untyped};
+use given_values::{
+    Callee, Gives, Item, call_fault, call_value, callee_name_fault, callee_named, callee_value,
+    name_fault, name_value, one_operand, single_fault, spread_over,
+};
 use names::{Scope, between, name_in};
 use operand_parts::{
     Elision, Placed, element_part, elided, elision_fault, index_fault, indexed, selected,
@@ -217,17 +220,24 @@ fn elided_literal(pos: Pos, elision: Elision, literal: Checked) -> Single
     }
 }
 
-/// A call at a place, of what is called and the arguments.
-fn call_of(alloc: Global, pos: Pos, called: Called, arguments: Listed) -> Result<Checked, NoMemory>
+/// A call at a place, of what is called and the arguments, with the fault of a call in what it doesn't evaluate.
+fn call_of(
+    alloc: Global,
+    pos: Pos,
+    called: Called,
+    arguments: Listed,
+    inner: Option<Fault>,
+) -> Result<Checked, NoMemory>
     ensures pos { IfOk result (λ c. c.pos ≡ pos) }
-    ensures gives { IfOk result (λ c. option_map gives_of c.gives ≡ called_with pos (callee_of called.callee) (seens arguments.items.items)) }
-    ensures fault { IfOk result (λ c. IsLesserWith (CallFails pos (callee_of called.callee) (seens arguments.items.items)) (least called.fault arguments.fault) c.fault) }
+    ensures gives { IfOk result (λ c. option_map gives_of c.gives ≡ called_quietly pos (callee_of called.callee) (seens arguments.items.items)) }
+    ensures fault { IfOk result (λ c. IsLesserWith (λ f. CallFails pos (callee_of called.callee) (seens arguments.items.items) f ⊎ IsFault inner f) (least called.fault arguments.fault) c.fault) }
 {
-    let own = call_fault(pos, &called.callee, &arguments.items);
+    let own = lesser(call_fault(pos, &called.callee, &arguments.items), inner);
+    let is_quiet = are_quiet(&called.callee, &arguments.items);
     let gives = call_value(alloc, pos, called.callee, arguments.items)?;
     Ok(Checked {
         pos,
-        gives,
+        gives: quietly(is_quiet, gives),
         fault: lesser(lesser(called.fault, arguments.fault), own),
     })
 }
@@ -286,7 +296,8 @@ pub fn check_expr(alloc: Global, text: &[u8], scope: &Scope, e: &Expr) -> Result
         Expr::Call(function, arguments, spread) => {
             let called = check_callee(alloc, text, scope, function, *spread)?;
             let listed = check_list(alloc, text, scope, arguments)?;
-            call_of(alloc, function.pos(), called, listed)
+            let inner = quiet_fault(text, scope, &called.callee, arguments, &listed.items);
+            call_of(alloc, function.pos(), called, listed, inner)
         }
         Expr::Selector(value, dot, name) => {
             check_selector(alloc, text, scope, value, *dot, *name)
@@ -391,7 +402,7 @@ pub fn check_stated(alloc: Global, text: &[u8], scope: &Scope, e: &Expr) -> Resu
         Expr::Name(name) => Ok(stated_name(text, scope, *name)),
         Expr::Paren(_, inner) => check_stated(alloc, text, scope, inner),
         Expr::ArrayType(bracket, length, element) => {
-            let length = check_single(alloc, text, scope, length)?;
+            let length = check_early(alloc, text, scope, length)?;
             let element = check_stated(alloc, text, scope, element)?;
             Ok(array_of(&scope.types, *bracket, length, element))
         }
@@ -522,6 +533,17 @@ fn check_callee(
             })
         }
     }
+}
+
+/// An expression as a constant that is worked out before the types of variables are known.
+#[cycle(expressions)]
+pub fn check_early(alloc: Global, text: &[u8], scope: &Scope, e: &Expr) -> Result<Single, NoMemory>
+    ensures pos { IfOk result (λ c. c.pos ≡ first_pos (tree_of e.now)) }
+    ensures operand { IfOk result (λ c. option_map operand_of c.operand ≡ early_gives text.now (scope_of scope.now) (tree_of e.now)) }
+    ensures fault { IfOk result (λ c. IsLeast (FailsEarly text.now (scope_of scope.now) (tree_of e.now)) c.fault) }
+{
+    let single = check_single(alloc, text, scope, e)?;
+    Ok(early(call_in(e), single))
 }
 
 /// An expression with one value.

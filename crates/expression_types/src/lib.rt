@@ -7,26 +7,16 @@
 //! fail in it, and where. Neither side is made from the other; the proofs show that exactly one of them speaks, where each name has a type.
 #![tactic(auto)]
 
-mod calls;
 mod conditions;
 mod declared;
 mod expressions;
-mod gives;
 mod literals;
-mod naming;
-mod values;
-mod wants;
+mod measures;
 
 pub use conditions::{Condition, Test, check_condition, check_test};
-pub use declared::{check_before, fault_before};
+pub use declared::{check_before, fault_before, spec_wanted};
 pub use expressions::{
-    Checked, Listed, Single, check_expr, check_list, check_single, check_stated,
+    Checked, Listed, Single, check_early, check_expr, check_list, check_single, check_stated,
 };
-pub use gives::{Callee, Gives, Item, Part, is_single, one_type, own_type, single_fault};
 pub use literals::Stated;
-pub use naming::known_type;
-pub use values::{
-    agrees, are_single, count, count_fault, many_types, placed_fault, singles_fault, take_fault,
-    taken, taken_types, value_types, values_fault,
-};
-pub use wants::{Wanted, accepts, asked, spec_wanted, wanted_by};
+pub use measures::early_value_fault;

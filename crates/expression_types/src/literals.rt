@@ -12,11 +12,12 @@ ghost use Rattle.operand_parts.specs.LiteralValues.{ElementsFail};
 ghost use Rattle.operand_parts.specs.Passing.{placeds};
 ghost use Rattle.expression_types.specs.Typing.{stated_type, literal_given};
 ghost use Rattle.expression_types.specs.Faults.{StatedFails};
-ghost use Rattle.expression_types.specs.Passing.{gives_of, key_in, IsLiteralFault};
+ghost use Rattle.given_values.specs.Passing.{gives_of};
+ghost use Rattle.expression_types.specs.Passing.{key_in, IsLiteralFault};
 
 use crate::expressions::{Checked, Single};
-use crate::gives::Gives;
 use base::{NoMemory, Pos, ValueType};
+use given_values::Gives;
 use names::{Scope, declared_type, spelled, type_name_fault};
 use operand_parts::{
     Placed, array_fault, array_with, composed, elements_fault, length_fault, length_of,

@@ -20,6 +20,8 @@ use Rattle.type_faults.proofs.Options.{none_some, same_some}
 use Rattle.names.specs.Blocks.{lookup}
 use Rattle.names.specs.declared.scope.Declared.{Declared}
 use Rattle.names.specs.declared.scope.Declared.TheVariants as declared
+use Rattle.names.specs.declared.scope.Measure.{Measure}
+use Rattle.names.specs.declared.scope.Measure.TheVariants.{Length, Capacity}
 use Rattle.names.specs.declared.scope.Known.{Known}
 use Rattle.names.specs.declared.scope.Known.TheVariants as known_as
 use Rattle.names.specs.Universe.{is_type_name, is_value_name, left_out, predeclared_function, predeclared}
@@ -59,6 +61,7 @@ IsTyped T sigs values (declared.Truth b) = ⊤
 IsTyped T sigs values declared.Nil = ⊤
 IsTyped T sigs values (declared.Print line) = ⊤
 IsTyped T sigs values declared.Panic = ⊤
+IsTyped T sigs values (declared.Measure m) = ⊤
 IsTyped T sigs values declared.LeftOutType = ⊤
 IsTyped T sigs values declared.LeftOutValue = ⊤
 
@@ -78,16 +81,19 @@ by_test : (P : Declared → Type 0) (b : Bool) (e : Declared) (o : Option Declar
 by_test P true e o here further1 d is = subst P (same_some is) here
 by_test P false e o here further1 d is = further1 d is
 
-module _ (P : Declared → Type 0) (int_is : P (declared.«Type» Int)) (bool_is : P (declared.«Type» Boolean)) (truth_is : (b : Bool) → P (declared.Truth b)) (nil_is : P declared.Nil) (print_is : (line : Bool) → P (declared.Print line)) (panic_is : P declared.Panic) (left_type_is : P declared.LeftOutType) (left_value_is : P declared.LeftOutValue) where
+module _ (P : Declared → Type 0) (int_is : P (declared.«Type» Int)) (bool_is : P (declared.«Type» Boolean)) (truth_is : (b : Bool) → P (declared.Truth b)) (nil_is : P declared.Nil) (print_is : (line : Bool) → P (declared.Print line)) (panic_is : P declared.Panic) (measure_is : (m : Measure) → P (declared.Measure m)) (left_type_is : P declared.LeftOutType) (left_value_is : P declared.LeftOutValue) where
   left_out_is : (n : List ℕ) (d : Declared) → left_out n ≡ Some d → P d
   left_out_is n = by_test P (is_type_name n) declared.LeftOutType _ left_type_is (by_test P (is_value_name n) declared.LeftOutValue None left_value_is (λ d is. absurd (none_some is)))
 
   function_is : (n : List ℕ) (d : Declared) → predeclared_function n ≡ Some d → P d
   function_is n =
       by_test P (bytes_eq n (codes "println")) (declared.Print true) _ (print_is true)
-      (by_test P (bytes_eq n (codes "print")) (declared.Print false) _ (print_is false) (by_test P (bytes_eq n (codes "panic")) declared.Panic _ panic_is (left_out_is n)))
+      (by_test P (bytes_eq n (codes "print")) (declared.Print false) _ (print_is false)
+      (by_test P (bytes_eq n (codes "panic")) declared.Panic _ panic_is
+      (by_test P (bytes_eq n (codes "len")) (declared.Measure Length) _ (measure_is Length)
+      (by_test P (bytes_eq n (codes "cap")) (declared.Measure Capacity) _ (measure_is Capacity) (left_out_is n)))))
 
-  -- what the language declares is a type, a truth value, `nil`, `print`, `println`, `panic`, or left out
+  -- what the language declares is a type, a truth value, `nil`, `print`, `println`, `panic`, `len`, `cap`, or left out
   pub predeclared_is : (n : List ℕ) (d : Declared) → predeclared n ≡ Some d → P d
   unfolding predeclared
   predeclared_is n =
@@ -97,7 +103,7 @@ module _ (P : Declared → Type 0) (int_is : P (declared.«Type» Int)) (bool_is
       (by_test P (bytes_eq n (codes "false")) (declared.Truth false) _ (truth_is false) (by_test P (bytes_eq n (codes "nil")) declared.Nil _ nil_is (function_is n)))))
 
 predeclared_typed : (T : Table) → IsFormed T → (sigs : List (Option Signature)) (values : List (Option Known)) (n : List ℕ) (d : Declared) → predeclared n ≡ Some d → IsTyped T sigs values d
-predeclared_typed T formed sigs values n d is = predeclared_is (IsTyped T sigs values) (int_known T formed) (bool_known T formed) (λ b. tt) tt (λ line. tt) tt tt tt n d is
+predeclared_typed T formed sigs values n d is = predeclared_is (IsTyped T sigs values) (int_known T formed) (bool_known T formed) (λ b. tt) tt (λ line. tt) tt (λ m. tt) tt tt n d is
 
 numbered_typed : (s : Scope) → IsSettled s → (n : List ℕ) (o : Option ℕ) (d : Declared) → numbered s n o ≡ Some d → IsTyped s.types s.signatures s.values d
 numbered_typed s settled n None d is = predeclared_typed s.types settled.formed s.signatures s.values n d is
@@ -123,6 +129,7 @@ type_name_decided s (Some (declared.Truth b)) at typed = (_, refl)
 type_name_decided s (Some declared.Nil) at typed = (_, refl)
 type_name_decided s (Some (declared.Print line)) at typed = (_, refl)
 type_name_decided s (Some declared.Panic) at typed = (_, refl)
+type_name_decided s (Some (declared.Measure m)) at typed = (_, refl)
 type_name_decided s (Some declared.LeftOutType) at typed = (_, refl)
 type_name_decided s (Some declared.LeftOutValue) at typed = (_, refl)
 

@@ -5,7 +5,8 @@ use Rattle.std.specs.List.{list_any}
 use Rattle.std.specs.Str.{bytes_eq}
 use Rattle.base.specs.declared.value_type.ValueType.TheVariants as value_type
 use Rattle.names.specs.declared.scope.Declared.{Declared}
-use Rattle.names.specs.declared.scope.Declared.TheVariants.{«Type», Truth, Nil, Print, Panic, LeftOutType, LeftOutValue}
+use Rattle.names.specs.declared.scope.Declared.TheVariants.{«Type», Truth, Nil, Print, Panic, Measure, LeftOutType, LeftOutValue}
+use Rattle.names.specs.declared.scope.Measure.TheVariants.{Length, Capacity}
 
 -- the predeclared types of Go 1.22
 abbrev pub type_names : List (List ℕ)
@@ -41,7 +42,9 @@ left_out name = if is_type_name name then Some LeftOutType else (if is_value_nam
 abbrev pub predeclared_function : List ℕ → Option Declared
 predeclared_function name =
     if bytes_eq name (codes "println") then Some (Print true)
-    else (if bytes_eq name (codes "print") then Some (Print false) else (if bytes_eq name (codes "panic") then Some Panic else left_out name))
+    else (if bytes_eq name (codes "print") then Some (Print false)
+    else (if bytes_eq name (codes "panic") then Some Panic
+    else (if bytes_eq name (codes "len") then Some (Measure Length) else (if bytes_eq name (codes "cap") then Some (Measure Capacity) else left_out name))))
 
 -- what a name stands for where the program doesn't declare it
 unfoldable pub predeclared : List ℕ → Option Declared

@@ -20,7 +20,7 @@ pub use blocks::Blocks;
 pub use fields::{Part, named_field, part_count, part_of};
 pub use naming::{between, name_in, spelled};
 pub use scope::{
-    Declared, External, GlobalId, Known, Scope, Signature, ValueId, beginning, type_id,
+    Declared, External, GlobalId, Known, Measure, Scope, Signature, ValueId, beginning, type_id,
 };
 pub use type_names::{array_type, declared_type, is_known, type_fault, type_in, type_name_fault};
 pub use universe::{is_blank, is_main};

@@ -49,6 +49,13 @@ pub enum Known {
     Variable(ValueType),
 }
 
+/// What a built-in function tells of an array.
+#[derive(Clone, Copy, Debug, PartialEq, Eq)]
+pub enum Measure {
+    Length,
+    Capacity,
+}
+
 /// What a name stands for.
 #[derive(Clone, Copy, Debug, PartialEq, Eq)]
 pub enum Declared {
@@ -74,6 +81,8 @@ pub enum Declared {
     Print(bool),
     /// `panic`.
     Panic,
+    /// `len` or `cap`.
+    Measure(Measure),
     /// A predeclared type that is left out of the profile.
     LeftOutType,
     /// Any other predeclared name that is left out of it.

@@ -5,7 +5,7 @@ ghost use Rattle.std.specs.List.{list_any};
 ghost use Rattle.std.specs.Str.{bytes_eq};
 ghost use Rattle.names.specs.Universe.{is_type_name, is_value_name, is_blank, is_main, left_out, predeclared_function, predeclared};
 
-use crate::scope::Declared;
+use crate::scope::{Declared, Measure};
 use base::ValueType;
 
 /// The predeclared types of Go 1.22 (Go specification, "Predeclared identifiers").
@@ -91,6 +91,10 @@ fn predeclared_function(name: &[u8]) -> Option<Declared>
         Some(Declared::Print(false))
     } else if name == "panic".as_bytes() {
         Some(Declared::Panic)
+    } else if name == "len".as_bytes() {
+        Some(Declared::Measure(Measure::Length))
+    } else if name == "cap".as_bytes() {
+        Some(Declared::Measure(Measure::Capacity))
     } else {
         left_out(name)
     }

@@ -19,18 +19,20 @@ use Rattle.names.specs.declared.scope.Declared.{Declared}
 use Rattle.names.specs.declared.scope.Known.{Known}
 use Rattle.names.specs.declared.scope.Known.TheVariants as known_as
 use Rattle.names.specs.Scope.{Scope}
-use Rattle.expression_types.specs.declared.wants.Wanted.{Wanted}
-use Rattle.expression_types.specs.Typing.{operand_in, value_in, own_type, many, all_values, values, each, fits, taken, spec_wanted, gives, stated_type, seen}
-use Rattle.expression_types.specs.Faults.{CountFails, SinglesFail, TakeFails, FailsInEach, FailsBefore}
-use Rattle.expression_types.proofs.DecidedValues.{take_decided}
+use Rattle.given_values.specs.declared.wants.Wanted.{Wanted}
+use Rattle.given_values.specs.Given.{operand_in, value_in, own_type, many, all_values, values, each, fits, taken}
+use Rattle.expression_types.specs.Typing.{spec_wanted, gives, stated_type, seen}
+use Rattle.given_values.specs.GivenFaults.{CountFails, SinglesFail, TakeFails}
+use Rattle.expression_types.specs.Faults.{FailsInEach, FailsBefore}
+use Rattle.given_values.proofs.DecidedValues.{take_decided}
 use Rattle.expression_types.proofs.Settled.{seen_decided}
 use Rattle.expression_types.proofs.Places.{spec_asks}
-use Rattle.expression_types.proofs.InForm.{typed_value}
+use Rattle.given_values.proofs.ValuesFit.{typed_value}
 use Rattle.package_values.specs.declared.items.Role.{Role}
 use Rattle.package_values.specs.declared.items.Role.TheVariants as role
 use Rattle.package_values.specs.Values.{Item, items_in, given_by, variable_type, given_as, settled}
 use Rattle.package_values.specs.Needs.{have_form}
-use Rattle.package_values.specs.ValueFaults.{is_this_value, value_name_fault, ValuesFail, is_bare, type_asked, SpecFails, SpecsFail, InitialsFail, VariablesFail, AllVariablesFail, DeclarationsFail, NamesFail}
+use Rattle.package_values.specs.ValueFaults.{is_this_value, value_name_fault, ValuesFail, is_bare, type_asked, SpecFails, SpecsFail, InitialsFail, VariablesFail, AllVariablesFail, DeclarationsFail, NamesFail, EarlyFail}
 use Rattle.package_values.specs.Accepted.{TypeIs, ConstantValuesAre, ConstantsAre, AllConstantsAre, OwnTypesAre, VariableTypesAre, InitialsAre, VariablesAre, AllVariablesAre, SpecsAre, NamesAre, IsGiven, DeclarationsAre}
 use Rattle.package_values.proofs.Holding.{holding}
 use Rattle.package_values.proofs.Giving.{allowed_gives}
@@ -59,11 +61,11 @@ module _ (text : List ℕ) (s : Scope) (ds : List Declaration) (h : NothingFails
   type_is None never = tt
   type_is (Some e) never = type_behind text s ds h e never
 
-  values_are : (t : Option TreeEx) (es : TreeExs) → Never (FailsBefore text r t) → Never (FailsInEach text r es) → Never (SinglesFail (seen text r es)) → Never (ValuesFail (type_asked text r t) (seen text r es)) → ConstantValuesAre text r t es
-  values_are t none type_never each_never singles never = tt
-  values_are t (some e es) type_never each_never singles never = (
-    value_behind text s ds h t e (first_pos e) type_never (λ f x. each_never f (inl x)) (λ f x. singles f (inl x)) (λ f x. never f (inl x)),
-    values_are t es type_never (λ f x. each_never f (inr x)) (λ f x. singles f (inr x)) (λ f x. never f (inr x)),
+  values_are : (t : Option TreeEx) (es : TreeExs) → Never (FailsBefore text r t) → Never (FailsInEach text r es) → Never (SinglesFail (seen text r es)) → Never (ValuesFail (type_asked text r t) (seen text r es)) → Never (EarlyFail es (seen text r es)) → ConstantValuesAre text r t es
+  values_are t none type_never each_never singles never lates = tt
+  values_are t (some e es) type_never each_never singles never lates = (
+    value_behind text s ds h t e (first_pos e) type_never (λ f x. each_never f (inl x)) (λ f x. singles f (inl x)) (λ f x. never f (inl x)) (λ f x. lates f (inl x)),
+    values_are t es type_never (λ f x. each_never f (inr x)) (λ f x. singles f (inr x)) (λ f x. never f (inr x)) (λ f x. lates f (inr x)),
   )
 
   constants_are : (at : Pos) (v : ValueSpec) → Never (SpecFails text r at v) → ConstantsAre text r v
@@ -72,9 +74,9 @@ module _ (text : List ℕ) (s : Scope) (ds : List Declaration) (h : NothingFails
       let all = single_behind text s ds h v.values (λ f x. never f (inl (inr (inl x)))) (λ f x. never f (inl (inr (inr x)))) in
       record {
         type_is = type_is v.type_expr (λ f x. never f (inl (inl x)));
-        values = values_are v.type_expr v.values (λ f x. never f (inl (inl x))) (λ f x. never f (inl (inr (inl x)))) (λ f x. never f (inl (inr (inr x)))) (λ f x. never f (inr (inl x)));
+        values = values_are v.type_expr v.values (λ f x. never f (inl (inl x))) (λ f x. never f (inl (inr (inl x)))) (λ f x. never f (inl (inr (inr x)))) (λ f x. never f (inr (inl x))) (λ f x. never f (inr (inr (inr x))));
         as_many = counted_behind text s ds h (length os) (length v.names) (fault WrongCount at)
-            (λ f x. never f (inr (inr (subst (λ (b : Bool). CountFails (cond b (Some (length os)) None) (length v.names) (fault WrongCount at) f) (sym all) x))));
+            (λ f x. never f (inr (inr (inl (subst (λ (b : Bool). CountFails (cond b (Some (length os)) None) (length v.names) (fault WrongCount at) f) (sym all) x)))));
       }
 
   all_constants_are : (at : Pos) (vs : List ValueSpec) → Never (SpecsFail text r at vs) → AllConstantsAre text r vs

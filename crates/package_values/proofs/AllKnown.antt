@@ -35,17 +35,19 @@ use Rattle.names.specs.declared.scope.Known.{Known}
 use Rattle.names.specs.declared.scope.Known.TheVariants as known_as
 use Rattle.names.specs.Scope.{Scope, Signature, numbered, declaration}
 use Rattle.names.proofs.Settled.{IsSound, AreSound, IsKnown, IsTyped, IsSettled, predeclared_is}
-use Rattle.expression_types.specs.Typing.{are_single, Gives, one, name_operand, prefix_gives, wanted_by, accepts_operand, single, operand_in, Seen, Many, many_in, many as many_of, count_of, declared_wanted, spec_wanted, gives, stated_type, seen}
-use Rattle.expression_types.specs.Faults.{single_fault, range_fault, RangeFails, CountFails, SinglesFail, ValuesFail as ManyFail, Fails, StatedFails, FailsInEach, FailsBefore}
-use Rattle.expression_types.proofs.DecidedValues.{single_decided, as_value_decided, ranges_placed}
+use Rattle.given_values.specs.Given.{are_single, Gives, one, name_operand, prefix_gives, wanted_by, accepts_operand, single, operand_in, Seen, Many, many_in, many as many_of, count_of}
+use Rattle.expression_types.specs.Typing.{declared_wanted, spec_wanted, gives, stated_type, seen, call_in, early, early_gives}
+use Rattle.given_values.specs.GivenFaults.{single_fault, range_fault, RangeFails, CountFails, SinglesFail, ValuesFail as ManyFail}
+use Rattle.expression_types.specs.Faults.{Fails, StatedFails, FailsInEach, FailsBefore, early_fault}
+use Rattle.given_values.proofs.DecidedValues.{single_decided, as_value_decided, ranges_placed}
 use Rattle.expression_types.proofs.Places.{spec_asks}
-use Rattle.expression_types.proofs.InForm.{typed_value}
+use Rattle.given_values.proofs.ValuesFit.{typed_value}
 use Rattle.expression_types.proofs.Settled.{gives_decided, stated_decided}
 use Rattle.package_values.specs.Values.{Item, as_constant, unvalued, paired, or_unvalued, items_of, items_in_specs, items_in, with_type, accepted, given_by, variable_type, given_as, given, settled}
 use Rattle.package_values.specs.declared.items.Role.{Role}
 use Rattle.package_values.specs.declared.items.Role.TheVariants as role
 use Rattle.package_values.specs.Needs.{names_in, names_in_each, names_in_some, names_waited, value_number, also, has_form, have_form, waited_form, numbers_of, needed_for, needed_as, needed, needed_in, Needs, Reaches, at_once, through}
-use Rattle.package_values.specs.ValueFaults.{single_count, value_fault, ValuesFail, type_asked, SpecFails, SpecsFail, form_fault, FormsFail, InitialsFail, VariablesFail, AllVariablesFail, cycle_place, DeclarationsFail, ItemsFail}
+use Rattle.package_values.specs.ValueFaults.{single_count, value_fault, ValuesFail, type_asked, SpecFails, SpecsFail, form_fault, FormsFail, InitialsFail, VariablesFail, AllVariablesFail, cycle_place, DeclarationsFail, ItemsFail, EarlyFail}
 use Rattle.components.specs.Graph.{Among}
 use Rattle.package_values.specs.Passing.{has_mark, is_marked}
 use Rattle.package_values.proofs.Growth.{known, Consistent, IsEnd, rounds, rounds_good, rounds_settle, all_seen, rounds_hold}
@@ -134,7 +136,7 @@ module _ (text : List ℕ) (s : Scope) (n : ℕ) (formed : IsFormed s.types) (ty
 
   value_below : (name : List ℕ) (o : Option ℕ) (d : Declared) → numbered s name o ≡ Some d → (j : ℕ) → value_number (Some d) ≡ Some j → j < n
   value_below name None d is j e =
-      absurd (predeclared_is HasNoNumber (λ k h. none_some h) (λ k h. none_some h) (λ b k h. none_some h) (λ k h. none_some h) (λ line k h. none_some h) (λ k h. none_some h) (λ k h. none_some h) (λ k h. none_some h) name d is j e)
+      absurd (predeclared_is HasNoNumber (λ k h. none_some h) (λ k h. none_some h) (λ b k h. none_some h) (λ k h. none_some h) (λ line k h. none_some h) (λ k h. none_some h) (λ m k h. none_some h) (λ k h. none_some h) (λ k h. none_some h) name d is j e)
   value_below name (Some i) d is j e = number_below s.types s.signatures n d (element (IsTypedOnceKnown s.types s.signatures n) s.declared i d typed is) j e
 
   name_below : (x : Name) (o : Option Declared) → declaration s (spelled text x) ≡ o → (j : ℕ) → value_number o ≡ Some j → j < n
@@ -225,20 +227,30 @@ module _ (text : List ℕ) (s : Scope) (n : ℕ) (formed : IsFormed s.types) (ty
           let held1 = subst (λ (o : Option ValueType). is_held o c.value ≡ true) is h in
           let f = typed_given t c same held1 in (f.0, ap (option_and_then (λ u. with_type u c)) is ∙ f.1)
 
+  -- a constant without a call is there early
+  in_time : (found : Option Pos) (c : Fixed) → Never (IsFault (early_fault found (Some (constant c)))) → early found (constant c) ≡ Some (constant c)
+  in_time None c never = refl
+  in_time (Some at) c never = absurd (never (fault OutOfProfile at) refl)
+
   value_given : (t : Option TreeEx) (e : TreeEx) (at : Pos) → AllSame text s cs (filled cs) (names_in_some t) → AllSame text s cs (filled cs) (names_in e) → Never (FailsBefore text (holding s cs) t) → Never (Fails text (holding s cs) e)
       → Never (IsFault (single_fault (gives text (holding s cs) e))) → Never (IsFault (value_fault (type_asked text (holding s cs) t) at (operand_in (gives text (holding s cs) e))))
-      → (f : Fixed) × (given_by text (holding s cs) t (Some e) ≡ Some f)
-  value_given t e at type_all all type_never never single_never value_never =
+      → Never (IsFault (early_fault (call_in e) (operand_in (gives text (holding s cs) e)))) → (f : Fixed) × (given_by text (holding s cs) t (Some e) ≡ Some f)
+  value_given t e at type_all all type_never never single_never value_never early_never =
       let x = operand_here e all never single_never in
       by x.0 x.1 (λ f h. value_never f (subst (λ (o : Option Operand). IsFault (value_fault (type_asked text (holding s cs) t) at o) f) (sym x.1) h))
+      (λ f h. early_never f (subst (λ (o : Option Operand). IsFault (early_fault (call_in e) o) f) (sym x.1) h))
     where
-      by : (x : Operand) → operand_in (gives text (holding s cs) e) ≡ Some x → Never (IsFault (value_fault (type_asked text (holding s cs) t) at (Some x))) → (f : Fixed) × (given_by text (holding s cs) t (Some e) ≡ Some f)
-      by (value u y) is free = absurd (no_value (accepts_operand (wanted_by (type_asked text (holding s cs) t)) (value u y)) at free)
-      by nil is free = absurd (no_value (accepts_operand (wanted_by (type_asked text (holding s cs) t)) nil) at free)
-      by (constant c) is free =
+      by : (x : Operand) → operand_in (gives text (holding s cs) e) ≡ Some x → Never (IsFault (value_fault (type_asked text (holding s cs) t) at (Some x))) → Never (IsFault (early_fault (call_in e) (Some x)))
+          → (f : Fixed) × (given_by text (holding s cs) t (Some e) ≡ Some f)
+      by (value u y) is free late1 = absurd (no_value (accepts_operand (wanted_by (type_asked text (holding s cs) t)) (value u y)) at free)
+      by nil is free late1 = absurd (no_value (accepts_operand (wanted_by (type_asked text (holding s cs) t)) nil) at free)
+      by (constant c) is free late1 =
           let fits = fitting (accepts_operand (wanted_by (type_asked text (holding s cs) t)) (constant c)) (is_held (type_asked text (holding s cs) t) c.value) at free in
-          let f = accepted_here t c type_all type_never fits.0 fits.1 in
-          (f.0, ap (λ (o : Option Operand). option_and_then (accepted text (holding s cs) t) (option_and_then as_constant o)) is ∙ f.1)
+          let f = accepted_here t c type_all type_never fits.0 fits.1 in (
+            f.0,
+            ap (λ (o : Option Operand). option_and_then (accepted text (holding s cs) t) (option_and_then as_constant (option_and_then (early (call_in e)) o))) is
+                ∙ ap (λ (o : Option Operand). option_and_then (accepted text (holding s cs) t) (option_and_then as_constant o)) (in_time (call_in e) c late1) ∙ f.1,
+          )
 
   -- ---- the rules that hold for one constant
 
@@ -248,6 +260,7 @@ module _ (text : List ℕ) (s : Scope) (n : ℕ) (formed : IsFormed s.types) (ty
   Holds t (Some e) es =
       (at : Pos) × Never (Fails text (holding s cs) e) × Never (IsFault (single_fault (gives text (holding s cs) e)))
       × Never (IsFault (value_fault (type_asked text (holding s cs) t) at (operand_in (gives text (holding s cs) e))))
+      × Never (IsFault (early_fault (call_in e) (operand_in (gives text (holding s cs) e))))
 
   -- of the value of a variable without a type
   abbrev HoldsInitial : Option TreeEx → Option TreeEx → TreeExs → Type 0
@@ -284,11 +297,11 @@ module _ (text : List ℕ) (s : Scope) (n : ℕ) (formed : IsFormed s.types) (ty
       subst (AllByRecursion Sound) p.2 (record { type_holds = type_never; value_holds = each.0 }, paired_sound r names t all (1 + k) ns es p.0 p.1 type_never each.1)
 
   constants_hold : (t : Option TreeEx) (all es : TreeExs) → Never (FailsInEach text (holding s cs) es) → Never (SinglesFail (seen text (holding s cs) es))
-      → Never (ValuesFail (type_asked text (holding s cs) t) (seen text (holding s cs) es)) → EachHolds role.Constant t all es
-  constants_hold t all none each singles values = tt
-  constants_hold t all (some v es) each singles values = (
-    (first_pos v, λ f h. each f (inl h), λ f h. singles f (inl h), λ f h. values f (inl h)),
-    constants_hold t all es (λ f h. each f (inr h)) (λ f h. singles f (inr h)) (λ f h. values f (inr h)),
+      → Never (ValuesFail (type_asked text (holding s cs) t) (seen text (holding s cs) es)) → Never (EarlyFail es (seen text (holding s cs) es)) → EachHolds role.Constant t all es
+  constants_hold t all none each singles values lates = tt
+  constants_hold t all (some v es) each singles values lates = (
+    (first_pos v, λ f h. each f (inl h), λ f h. singles f (inl h), λ f h. values f (inl h), λ f h. lates f (inl h)),
+    constants_hold t all es (λ f h. each f (inr h)) (λ f h. singles f (inr h)) (λ f h. values f (inr h)) (λ f h. lates f (inr h)),
   )
 
   -- where each value is known there are as many as names
@@ -340,10 +353,10 @@ module _ (text : List ℕ) (s : Scope) (n : ℕ) (formed : IsFormed s.types) (ty
       by : (o : Option (List Item)) → paired role.Constant v.names v.type_expr v.values 0 v.names v.values ≡ o → AllByRecursion Sound (or_unvalued o (unvalued role.Constant v.names v.type_expr v.values 0 v.names))
       by None e =
           unvalued_sound role.Constant v.names v.type_expr v.values 0 v.names (λ f h. never f (inl (inl h)))
-          (waits_for_one role.Constant v.type_expr v.names v.values (fault WrongCount at) e (λ f h. never f (inl (inr (inl h)))) (λ f h. never f (inl (inr (inr h)))) (λ f h. never f (inr (inr h))))
+          (waits_for_one role.Constant v.type_expr v.names v.values (fault WrongCount at) e (λ f h. never f (inl (inr (inl h)))) (λ f h. never f (inl (inr (inr h)))) (λ f h. never f (inr (inr (inl h)))))
       by (Some is) e =
           paired_sound role.Constant v.names v.type_expr v.values 0 v.names v.values is e (λ f h. never f (inl (inl h)))
-          (constants_hold v.type_expr v.values v.values (λ f h. never f (inl (inr (inl h)))) (λ f h. never f (inl (inr (inr h)))) (λ f h. never f (inr (inl h))))
+          (constants_hold v.type_expr v.values v.values (λ f h. never f (inl (inr (inl h)))) (λ f h. never f (inl (inr (inr h)))) (λ f h. never f (inr (inl h))) (λ f h. never f (inr (inr (inr h)))))
 
   -- ---- variables
 
@@ -473,7 +486,7 @@ module _ (text : List ℕ) (s : Scope) (n : ℕ) (formed : IsFormed s.types) (ty
   known_needs : (t v : Option TreeEx) (es : TreeExs) → Never (FailsBefore text (holding s cs) t) → Holds t v es → given_by text (holding s cs) t v ≡ None → AllSame text s cs (filled cs) (names_in_some t ++ names_waited v es) → ⊥
   known_needs t None es type_never holds1 is all = holds1 (all_right text s cs (filled cs) (names_in_some t) (names_in_each es) all)
   known_needs t (Some e) es type_never holds1 is all =
-      let f = value_given t e holds1.0 (all_left text s cs (filled cs) (names_in_some t) (names_in e) all) (all_right text s cs (filled cs) (names_in_some t) (names_in e) all) type_never holds1.1 holds1.2 holds1.3 in none_some (sym is ∙ f.1)
+      let f = value_given t e holds1.0 (all_left text s cs (filled cs) (names_in_some t) (names_in e) all) (all_right text s cs (filled cs) (names_in_some t) (names_in e) all) type_never holds1.1 holds1.2 holds1.3 holds1.4 in none_some (sym is ∙ f.1)
 
   abbrev VariableUnknown : Option TreeEx → Option TreeEx → TreeExs → Type 0
   VariableUnknown (Some t) v es = Unknown (numbers_of text (holding s cs) (names_in t))
@@ -681,7 +694,7 @@ module _ (text : List ℕ) (s : Scope) (ds : List Declaration) where
 
     pub value_behind : (t : Option TreeEx) (e : TreeEx) (at : Pos) → NeverHere (FailsBefore text (holding s behind) t) → NeverHere (Fails text (holding s behind) e)
         → NeverHere (IsFault (single_fault (gives text (holding s behind) e))) → NeverHere (IsFault (value_fault (type_asked text (holding s behind) t) at (operand_in (gives text (holding s behind) e))))
-        → (f : Fixed) × (given_by text (holding s behind) t (Some e) ≡ Some f)
+        → NeverHere (IsFault (early_fault (call_in e) (operand_in (gives text (holding s behind) e)))) → (f : Fixed) × (given_by text (holding s behind) t (Some e) ≡ Some f)
     value_behind t e at = value_given text s (length s.values) h.formed h.typed behind many_behind held t e at (same_behind (names_in_some t)) (same_behind (names_in e))
 
     pub single_behind : (es : TreeExs) → NeverHere (FailsInEach text (holding s behind) es) → NeverHere (SinglesFail (seen text (holding s behind) es)) → are_single (seen text (holding s behind) es) ≡ true

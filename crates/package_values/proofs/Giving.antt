@@ -30,7 +30,8 @@ use Rattle.names.proofs.Settled.{IsSound, AreSound}
 use Rattle.operand_parts.specs.Parts.{selected, indexed}
 use Rattle.operand_parts.specs.ArrayTypes.{length_of, array_with}
 use Rattle.operand_parts.specs.Literals.{elided, type_elided, element_part}
-use Rattle.expression_types.specs.Typing.{Gives, one, called, asking, printed, global_read, constant_read, name_operand, prefix_gives, single, operand_in, value_in, part_in, Seen, listed, values, parts, type_in_one, Many, many_in, many, types_with, values_agree, each, fits_with, fits, all_values, taken, Callee, printer, panicker, reader, exiter, function, conversion, no_function, no_spread, no_text_spread, nothing, callee_value, callee_declared, exit_places, panicked_with, exited_with, called_with, spread_over, callee, literal_given, literal_gives, gives, stated_type, placed, seen}
+use Rattle.given_values.specs.Given.{Gives, one, called, asking, printed, global_read, constant_read, name_operand, prefix_gives, single, operand_in, value_in, part_in, Seen, listed, values, parts, type_in_one, Many, many_in, many, types_with, values_agree, each, fits_with, fits, all_values, taken, Callee, printer, panicker, reader, exiter, function, conversion, no_function, no_spread, no_text_spread, nothing, callee_value, callee_declared, exit_places, panicked_with, exited_with, called_with, spread_over, callee, measurer, measured, measure_constant, length_in}
+use Rattle.expression_types.specs.Typing.{literal_given, literal_gives, gives, stated_type, placed, seen, call_in, early, early_gives, are_quiet, called_quietly}
 use Rattle.expression_types.proofs.Held.{operand_held}
 use Rattle.package_values.specs.declared.items.Role.{Role}
 use Rattle.package_values.specs.declared.items.Role.TheVariants as role
@@ -54,6 +55,14 @@ a_constant None f h = absurd (none_some h)
 a_constant (Some (constant g)) f h = ap (λ (x : Fixed). Some (constant x)) (same_some h)
 a_constant (Some (value t x)) f h = absurd (none_some h)
 a_constant (Some nil) f h = absurd (none_some h)
+
+-- what is given early is given
+pub late : (found : Option Pos) (o : Option Operand) (x : Operand) → option_and_then (early found) o ≡ Some x → o ≡ Some x
+late found None x h = absurd (none_some h)
+late None (Some (constant f)) x h = h
+late (Some at) (Some (constant f)) x h = absurd (none_some h)
+late found (Some (value t y)) x h = h
+late found (Some nil) x h = h
 
 single_still : (o p : Option Gives) → Stays o p → Stays (operand_in o) (operand_in p)
 single_still o p still = then_stays single single o p (λ g. refl) still
@@ -106,10 +115,18 @@ pub allowed_gives : {A : Type 0} (b : Bool) (o : Option A) (x : A) → allowed b
 allowed_gives true o x h = (refl, h)
 allowed_gives false o x h = absurd (none_some h)
 
+measured_give : (os : List Seen) (n : ℕ) → measured os ≡ Some n → AllGive os
+measured_give [] n h = tt
+measured_give (o ∷ []) n h =
+    let p = and_then_some length_in (operand_in o.gives) n h in
+    (there_is operand_in refl o.gives p.0 p.1, tt)
+measured_give (o ∷ q ∷ os) n h = absurd (none_some h)
+
 -- what a call gives rests on arguments that all give something
 pub call_gives : (at : Pos) (k : Callee) (os : List Seen) (g : Gives) → called_with at k os ≡ Some g → AllGive os
 call_gives at (printer line) os g h = let p = map_some (printed at line) (parts os) g h in listed_give part_in refl os p.0 p.1
 call_gives at panicker os g h = let p = and_then_some (panicked_with at) (parts os) g h in listed_give part_in refl os p.0 p.1
+call_gives at (measurer m) os g h = let p = map_some measure_constant (measured os) g h in measured_give os p.0 p.1
 call_gives at reader os g h = no_places os (many os) refl (allowed_gives (fits [] os) (Some (asking at)) g h).0
 call_gives at exiter os g h =
     let p = and_then_some (exited_with at) (allowed (fits exit_places os) (values os)) g h in
@@ -176,11 +193,16 @@ module _ (text : List ℕ) (s : Scope) where
     value_still : (x y : Option Operand) → Stays x y → ((a : Operand) × (x ≡ Some a)) → x ≡ y
     value_still x y still has = has.1 ∙ sym (still has.0 has.1)
 
+    early_still : (e : TreeEx) → Stays (fewer e) (more e) → Stays (early_gives text (holding s cs) e) (early_gives text (holding s ds) e)
+    early_still e still = then_stays (early (call_in e)) (early (call_in e)) (fewer e) (more e) (λ x. refl) still
+
     array_still : (len e : TreeEx) → Stays (fewer len) (more len) → Stays (stated_type text (holding s cs) e) (stated_type text (holding s ds) e)
-        → Stays (array_with s.types (option_and_then length_of (fewer len)) (stated_type text (holding s cs) e)) (array_with s.types (option_and_then length_of (more len)) (stated_type text (holding s ds) e))
+        → Stays (array_with s.types (option_and_then length_of (early_gives text (holding s cs) len)) (stated_type text (holding s cs) e))
+        (array_with s.types (option_and_then length_of (early_gives text (holding s ds) len)) (stated_type text (holding s ds) e))
     array_still len e length1 of =
-        both_stay (array_of s.types) (option_and_then length_of (fewer len)) (option_and_then length_of (more len)) (stated_type text (holding s cs) e) (stated_type text (holding s ds) e)
-        (then_stays length_of length_of (fewer len) (more len) (λ x. refl) length1) of
+        both_stay (array_of s.types) (option_and_then length_of (early_gives text (holding s cs) len)) (option_and_then length_of (early_gives text (holding s ds) len))
+        (stated_type text (holding s cs) e) (stated_type text (holding s ds) e)
+        (then_stays length_of length_of (early_gives text (holding s cs) len) (early_gives text (holding s ds) len) (λ x. refl) (early_still len length1)) of
 
     mutual
       pub gives_still : (e : TreeEx) (g : Gives) → gives text (holding s cs) e ≡ Some g → gives text (holding s ds) e ≡ Some g
@@ -197,11 +219,12 @@ module _ (text : List ℕ) (s : Scope) where
       gives_still (call f es spread) g h =
           let k = callee text (holding s cs) (name_in f) (gives text (holding s cs) f) in
           let os = seen text (holding s cs) es in
+          let q = allowed_gives (are_quiet (spread_over spread k) os) (called_with (first_pos f) (spread_over spread k) os) g h in
           let k_is : k ≡ callee text (holding s ds) (name_in f) (gives text (holding s ds) f) =
-          callee_still (first_pos f) spread (name_in f) (gives text (holding s cs) f) (gives text (holding s ds) f) os g h in
-          let os_is : os ≡ seen text (holding s ds) es = seen_still es (call_gives (first_pos f) (spread_over spread k) os g h) in
-          sym (ap (λ (x : Callee). called_with (first_pos f) (spread_over spread x) os) k_is
-          ∙ ap (λ (l : List Seen). called_with (first_pos f) (spread_over spread (callee text (holding s ds) (name_in f) (gives text (holding s ds) f))) l) os_is) ∙ h
+          callee_still (first_pos f) spread (name_in f) (gives text (holding s cs) f) (gives text (holding s ds) f) os g q.1 in
+          let os_is : os ≡ seen text (holding s ds) es = seen_still es (call_gives (first_pos f) (spread_over spread k) os g q.1) in
+          sym (ap (λ (x : Callee). called_quietly (first_pos f) (spread_over spread x) os) k_is
+          ∙ ap (λ (l : List Seen). called_quietly (first_pos f) (spread_over spread (callee text (holding s ds) (name_in f) (gives text (holding s ds) f))) l) os_is) ∙ h
       gives_still (selector e at n) g h = selector_still e n (single_still (gives text (holding s cs) e) (gives text (holding s ds) e) (gives_still e)) g h
       gives_still (index e at i) g h =
           pair_still (indexed s.types at) e i (single_still (gives text (holding s cs) e) (gives text (holding s ds) e) (gives_still e))
@@ -249,9 +272,9 @@ module _ (text : List ℕ) (s : Scope) where
     given_still : (t v : Option TreeEx) (f : Fixed) → given_by text (holding s cs) t v ≡ Some f → given_by text (holding s ds) t v ≡ Some f
     given_still t None f h = absurd (none_some h)
     given_still t (Some e) f h =
-        let p = and_then_some (accepted text (holding s cs) t) (constant_in (gives text (holding s cs) e)) f h in
-        let q = and_then_some as_constant (operand_in (gives text (holding s cs) e)) p.0 p.1 in
-        ap (option_and_then (accepted text (holding s ds) t)) (ap (option_and_then as_constant) (operand_still e q.0 q.1) ∙ q.2) ∙ accepted_still t p.0 f p.2
+        let p = and_then_some (accepted text (holding s cs) t) (option_and_then as_constant (early_gives text (holding s cs) e)) f h in
+        let q = and_then_some as_constant (early_gives text (holding s cs) e) p.0 p.1 in
+        ap (option_and_then (accepted text (holding s ds) t)) (ap (option_and_then as_constant) (early_still e (operand_still e) q.0 q.1) ∙ q.2) ∙ accepted_still t p.0 f p.2
 
     initial_still : (v : Option TreeEx) (es : TreeExs) (n k : ℕ) (t : ValueType) → initial_type text (holding s cs) v es n k ≡ Some t → initial_type text (holding s ds) v es n k ≡ Some t
     initial_still (Some e) es n k t h =
@@ -307,8 +330,9 @@ module _ (text : List ℕ) (s : Scope) where
   by_value : (cs : List (Option Known)) → AreSound cs → (t v : Option TreeEx) (f : Fixed) → given_by text (holding s cs) t v ≡ Some f → is_held f.value_type f.value ≡ true
   by_value cs sound t None f is = absurd (none_some is)
   by_value cs sound t (Some e) f is =
-      let p = and_then_some (accepted text (holding s cs) t) (constant_in (gives text (holding s cs) e)) f is in
-      accepted_held cs t p.0 f (operand_held text (holding s cs) (λ n x h. name_held cs sound (declaration s n) x h) e (constant p.0) (a_constant (operand_in (gives text (holding s cs) e)) p.0 p.1)) p.2
+      let p = and_then_some (accepted text (holding s cs) t) (option_and_then as_constant (early_gives text (holding s cs) e)) f is in
+      let q = a_constant (early_gives text (holding s cs) e) p.0 p.1 in
+      accepted_held cs t p.0 f (operand_held text (holding s cs) (λ n x h. name_held cs sound (declaration s n) x h) e (constant p.0) (late (call_in e) (operand_in (gives text (holding s cs) e)) (constant p.0) q)) p.2
 
   sound_as : (cs : List (Option Known)) → AreSound cs → (r : Role) (i : Item) (x : Known) → given_as text r (holding s cs) i ≡ Some x → IsSound x
   sound_as cs sound role.Constant i x is =

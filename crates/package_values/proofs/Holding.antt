@@ -21,7 +21,8 @@ use Rattle.operand_parts.specs.PartFaults.{selected_fault, selector_fault}
 use Rattle.operand_parts.specs.Literals.{element_count, are_keyed, are_plain, element_part, keys_fit, shape_fits}
 use Rattle.operand_parts.specs.LiteralFaults.{key_fault, KeysFail, StructKeysFail, ShapeFails}
 use Rattle.operand_parts.specs.LiteralValues.{Placed, composed}
-use Rattle.expression_types.specs.Typing.{one, literal_given}
+use Rattle.given_values.specs.Given.{one}
+use Rattle.expression_types.specs.Typing.{literal_given}
 
 -- a scope with these constants and variables
 abbrev pub holding : Scope → List (Option Known) → Scope

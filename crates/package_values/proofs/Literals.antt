@@ -12,7 +12,8 @@ use Rattle.names.specs.declared.fields.Part.{Part}
 use Rattle.names.specs.Scope.{Scope}
 use Rattle.operand_parts.specs.Literals.{shape_fits}
 use Rattle.operand_parts.specs.LiteralValues.{Placed, PartValue, taken_as, value_of_part, part_values, literal_with, composed}
-use Rattle.expression_types.specs.Typing.{Gives, one, literal_given}
+use Rattle.given_values.specs.Given.{Gives, one}
+use Rattle.expression_types.specs.Typing.{literal_given}
 
 -- elements that all have a value
 abbrev pub AllPlaced : List Placed → Type 0

@@ -1,5 +1,5 @@
 -- Where the declarations of constants and variables are those of an accepted package, no rule of them fails but that none needs itself.
-use Rattle.std.proofs.Common.{◌≡◌, ℕ, suc, ◌<◌, Bool, true, false, cond, List, [], ◌∷◌, length, ◌⊎◌, inl, inr, Option, Some, None, refl, sym, ap, ◌∙◌, subst, arith}
+use Rattle.std.proofs.Common.{◌≡◌, ℕ, suc, ◌<◌, Bool, true, false, cond, List, [], ◌∷◌, length, ◌⊎◌, inl, inr, Option, Some, None, refl, sym, ap, ◌∙◌, subst, arith, option_and_then}
 use Rattle.std.proofs.lemmas.Bool.{eq-eqb}
 use Rattle.std.specs.Prelude.{is_some, ◌&&◌}
 use Rattle.std.specs.List.{AllByRecursion}
@@ -18,23 +18,25 @@ use Rattle.type_faults.proofs.Options.{and_then_some, none_some, same_some}
 use Rattle.base.specs.declared.value_type.ValueType.{ValueType}
 use Rattle.constants.specs.declared.constant.Fixed.{Fixed}
 use Rattle.constants.specs.Constants.{constant_type, holds}
-use Rattle.operators.specs.Operands.{Operand, constant}
+use Rattle.operators.specs.Operands.{Operand, constant, value, nil}
 use Rattle.names.specs.declared.scope.Declared.{Declared}
 use Rattle.names.specs.Scope.{Scope}
 use Rattle.names.specs.declared.scope.Known.{Known}
 use Rattle.names.proofs.Settled.{AreSound, IsKnown, IsTyped, IsSettled}
-use Rattle.expression_types.specs.Typing.{operand_in, are_single, taken, spec_wanted, gives, stated_type, seen}
-use Rattle.expression_types.specs.Faults.{CountFails, SinglesFail, TakeFails, Fails, StatedFails, FailsInEach, FailsBefore, FailsAsOperand}
-use Rattle.expression_types.proofs.DecidedValues.{operand_decided, take_decided}
+use Rattle.given_values.specs.Given.{operand_in, are_single, taken}
+use Rattle.expression_types.specs.Typing.{spec_wanted, gives, stated_type, seen, call_in, early, early_gives}
+use Rattle.given_values.specs.GivenFaults.{CountFails, SinglesFail, TakeFails}
+use Rattle.expression_types.specs.Faults.{Fails, StatedFails, FailsInEach, FailsBefore, FailsAsOperand, early_fault}
+use Rattle.given_values.proofs.DecidedValues.{operand_decided, take_decided}
 use Rattle.expression_types.proofs.Settled.{gives_decided, stated_decided, seen_decided}
 use Rattle.expression_types.proofs.Places.{spec_asks}
-use Rattle.package_values.specs.Values.{Item, items_in, constant_in, with_type, accepted, given_by, settled}
+use Rattle.package_values.specs.Values.{Item, items_in, with_type, accepted, given_by, settled, as_constant}
 use Rattle.package_values.specs.Needs.{has_form, have_form}
-use Rattle.package_values.specs.ValueFaults.{is_this_value, value_fault, value_name_fault, single_count, ValuesFail, is_bare, type_asked, SpecFails, SpecsFail, form_fault, FormsFail, InitialsFail, VariablesFail, AllVariablesFail, DeclarationsFail, NamesFail}
+use Rattle.package_values.specs.ValueFaults.{is_this_value, value_fault, value_name_fault, single_count, ValuesFail, is_bare, type_asked, SpecFails, SpecsFail, form_fault, FormsFail, InitialsFail, VariablesFail, AllVariablesFail, DeclarationsFail, NamesFail, EarlyFail}
 use Rattle.package_values.specs.Accepted.{TypeIs, ConstantValuesAre, ConstantsAre, AllConstantsAre, VariableTypesAre, InitialsAre, VariablesAre, AllVariablesAre, SpecsAre, NamesAre, DeclarationsAre}
 use Rattle.package_values.proofs.Growth.{known, rounds_many}
 use Rattle.package_values.proofs.Holding.{holding}
-use Rattle.package_values.proofs.Giving.{give, monotone, a_constant, allowed_gives, looks_are}
+use Rattle.package_values.proofs.Giving.{give, monotone, a_constant, allowed_gives, looks_are, late}
 use Rattle.package_values.proofs.AllKnown.{IsTypedOnceKnown, typed_by, all_map, behind}
 
 abbrev Never : (Fault → Type 0) → Type 0
@@ -77,19 +79,30 @@ module _ (text : List ℕ) (r : Scope) (settled1 : IsSettled r) where
       subst (λ (b : Bool). IsFault (cond b None (Some (fault ConstRange at))) g) q.1
       (subst (λ (b : Bool). IsFault (cond b (cond (holds p.0 c.value) None (Some (fault ConstRange at))) (Some (fault Mismatch at))) g) q.0 here)
 
+  -- what is given early has no call
+  never_late : (found : Option Pos) (o : Option Operand) (x : Operand) → option_and_then (early found) o ≡ Some x → Never (IsFault (early_fault found o))
+  never_late found None x is f h = h
+  never_late None (Some (constant c)) x is f h = h
+  never_late (Some at) (Some (constant c)) x is f h = none_some is
+  never_late found (Some (value t y)) x is f h = h
+  never_late found (Some nil) x is f h = h
+
   value_never : (t : Option TreeEx) (e : TreeEx) (f : Fixed) → given_by text r t (Some e) ≡ Some f
       → Never (FailsAsOperand text r e) × Never (IsFault (value_fault (type_asked text r t) (first_pos e) (operand_in (gives text r e)))) × ((x : Operand) × (operand_in (gives text r e) ≡ Some x))
+      × Never (IsFault (early_fault (call_in e) (operand_in (gives text r e))))
   value_never t e f is =
-      let p = and_then_some (accepted text r t) (constant_in (gives text r e)) f is in
-      let x = a_constant (operand_in (gives text r e)) p.0 p.1 in (
+      let p = and_then_some (accepted text r t) (option_and_then as_constant (early_gives text r e)) f is in
+      let y = a_constant (early_gives text r e) p.0 p.1 in
+      let x = late (call_in e) (operand_in (gives text r e)) (constant p.0) y in (
         given_never (operand_in (gives text r e)) (constant p.0) (FailsAsOperand text r e) x (operand_decided (gives text r e) (Fails text r e) (gives_decided text r settled1 e)),
         λ g h. fitting_never t p.0 f (first_pos e) p.2 g (subst (λ (o : Option Operand). IsFault (value_fault (type_asked text r t) (first_pos e) o) g) x h),
         (constant p.0, x),
+        never_late (call_in e) (operand_in (gives text r e)) (constant p.0) y,
       )
 
   values_never : (t : Option TreeEx) (es : TreeExs) → ConstantValuesAre text r t es
-      → Never (FailsInEach text r es) × Never (SinglesFail (seen text r es)) × Never (ValuesFail (type_asked text r t) (seen text r es)) × (are_single (seen text r es) ≡ true)
-  values_never t none are = (λ f h. h, λ f h. h, λ f h. h, refl)
+      → Never (FailsInEach text r es) × Never (SinglesFail (seen text r es)) × Never (ValuesFail (type_asked text r t) (seen text r es)) × (are_single (seen text r es) ≡ true) × Never (EarlyFail es (seen text r es))
+  values_never t none are = (λ f h. h, λ f h. h, λ f h. h, refl, λ f h. h)
   values_never t (some e es) are =
       let v = value_never t e are.0.0 are.0.1 in
       let rest = values_never t es are.1 in (
@@ -97,12 +110,13 @@ module _ (text : List ℕ) (r : Scope) (settled1 : IsSettled r) where
         λ f h. elim h [ inl x ↦ v.0 f (inr x) | inr x ↦ rest.1 f x ],
         λ f h. elim h [ inl x ↦ v.1 f x | inr x ↦ rest.2 f x ],
         ap (λ (o : Option Operand). is_some o && are_single (seen text r es)) v.2.1 ∙ rest.3,
+        λ f h. elim h [ inl x ↦ v.3 f x | inr x ↦ rest.4 f x ],
       )
 
   spec_never : (at : Pos) (v : ValueSpec) → ConstantsAre text r v → Never (SpecFails text r at v)
   spec_never at v are f h = by h
     where
-      all : Never (FailsInEach text r v.values) × Never (SinglesFail (seen text r v.values)) × Never (ValuesFail (type_asked text r v.type_expr) (seen text r v.values)) × (are_single (seen text r v.values) ≡ true)
+      all : Never (FailsInEach text r v.values) × Never (SinglesFail (seen text r v.values)) × Never (ValuesFail (type_asked text r v.type_expr) (seen text r v.values)) × (are_single (seen text r v.values) ≡ true) × Never (EarlyFail v.values (seen text r v.values))
       all = values_never v.type_expr v.values are.values
 
       own : Fault
@@ -119,7 +133,8 @@ module _ (text : List ℕ) (r : Scope) (settled1 : IsSettled r) where
       by (inl (inr (inl x))) = all.0 f x
       by (inl (inr (inr x))) = all.1 f x
       by (inr (inl x)) = all.2 f x
-      by (inr (inr x)) = count x
+      by (inr (inr (inl x))) = count x
+      by (inr (inr (inr x))) = all.4 f x
 
   specs_never : (at : Pos) (vs : List ValueSpec) → AllConstantsAre text r vs → Never (SpecsFail text r at vs)
   specs_never at [] are f h = h

@@ -30,17 +30,18 @@ use Rattle.names.specs.Types.{array_type as array_of, declared_type}
 use Rattle.operand_parts.specs.Parts.{selected, indexed}
 use Rattle.operand_parts.specs.ArrayTypes.{length_of, array_with}
 use Rattle.operand_parts.specs.Literals.{elided, type_elided}
-use Rattle.expression_types.specs.Typing.{Gives, one, global_read, constant_read, name_operand, prefix_gives, single, operand_in, own_type, Many, many, Seen, called_with, spread_over, callee, callee_declared, literal_gives, gives, stated_type, placed, seen}
+use Rattle.given_values.specs.Given.{Gives, one, global_read, constant_read, name_operand, prefix_gives, single, operand_in, own_type, Many, many, Seen, called_with, spread_over, callee, callee_declared}
+use Rattle.expression_types.specs.Typing.{literal_gives, gives, stated_type, placed, seen, call_in, early, early_gives, are_quiet}
 use Rattle.package_values.specs.declared.items.Role.{Role}
 use Rattle.package_values.specs.declared.items.Role.TheVariants as role
-use Rattle.package_values.specs.Values.{Item, as_constant, constant_in, with_type, accepted, given_by, variable_type, given_as, settled}
+use Rattle.package_values.specs.Values.{Item, as_constant, with_type, accepted, given_by, variable_type, given_as, settled}
 use Rattle.package_values.specs.Needs.{names_in, names_in_each, names_in_elements, names_in_some, names_waited, value_number, also, numbers_of, variable_mentions, mentions_as, mentions, mentioned}
 use Rattle.package_values.specs.Laws.{HasValue, follows, HoldsValues}
 use Rattle.package_values.specs.Passing.{each_given, all_given}
 use Rattle.package_values.proofs.Growth.{known, set_known, set_others, set_many}
 use Rattle.package_values.proofs.Holding.{holding}
 use Rattle.package_values.proofs.Literals.{AllPlaced, literal_typed, literal_placed}
-use Rattle.package_values.proofs.Giving.{give, no_value_call, AllGive, call_gives, many_give}
+use Rattle.package_values.proofs.Giving.{give, no_value_call, AllGive, call_gives, many_give, allowed_gives, late}
 use Rattle.package_values.proofs.Same.{NameSame, AllSame, all_left, all_right, gives_same, stated_same, seen_same}
 use Rattle.package_values.proofs.Least.{set_has, settled_is_least}
 
@@ -162,12 +163,12 @@ module _ (text : List ℕ) (s : Scope) where
     type_name_known T d t h = tt
 
     array_known : (len e : TreeEx) → ((g : Gives) → gives text (holding s cs) len ≡ Some g → AllKnown cs (names_in len)) → ((t : ValueType) → stated_type text (holding s cs) e ≡ Some t → AllKnown cs (names_in e))
-        → (t : ValueType) → array_with s.types (option_and_then length_of (operand_in (gives text (holding s cs) len))) (stated_type text (holding s cs) e) ≡ Some t → AllKnown cs (names_in len ++ names_in e)
+        → (t : ValueType) → array_with s.types (option_and_then length_of (early_gives text (holding s cs) len)) (stated_type text (holding s cs) e) ≡ Some t → AllKnown cs (names_in len ++ names_in e)
     array_known len e length1 of t h =
-        let o = operand_in (gives text (holding s cs) len) in
+        let o = early_gives text (holding s cs) len in
         let x = both_has (array_of s.types) (option_and_then length_of o) (stated_type text (holding s cs) e) t h in
         let p = and_then_some length_of o x.0.0 x.0.1 in
-        known_append cs (names_in len) (names_in e) (by_operand len length1 p.0 p.1) (of x.1.0 x.1.1)
+        known_append cs (names_in len) (names_in e) (by_operand len length1 p.0 (late (call_in len) (operand_in (gives text (holding s cs) len)) p.0 p.1)) (of x.1.0 x.1.1)
 
     by_literal : (t : Option ValueType) (es : TreeElements) → (AllPlaced (placed text (holding s cs) t 0 es) → AllKnown cs (names_in_elements es))
         → (x : Operand) → operand_in (literal_gives text (holding s cs) t es) ≡ Some x → AllKnown cs (names_in_elements es)
@@ -186,7 +187,8 @@ module _ (text : List ℕ) (s : Scope) where
       gives_known (call f es spread) g h =
           let k = callee text (holding s cs) (name_in f) (gives text (holding s cs) f) in
           let os = seen text (holding s cs) es in
-          known_append cs (names_in f) (names_in_each es) (callee_known (first_pos f) spread f os g h) (seen_known es (call_gives (first_pos f) (spread_over spread k) os g h))
+          let q = allowed_gives (are_quiet (spread_over spread k) os) (called_with (first_pos f) (spread_over spread k) os) g h in
+          known_append cs (names_in f) (names_in_each es) (callee_known (first_pos f) spread f os g q.1) (seen_known es (call_gives (first_pos f) (spread_over spread k) os g q.1))
       gives_known (selector e at n) g h =
           let o = operand_in (gives text (holding s cs) e) in
           let p = map_some one (option_and_then (selected text (holding s cs) n) o) g h in
@@ -231,9 +233,9 @@ module _ (text : List ℕ) (s : Scope) where
     constant_known : (t v : Option TreeEx) (es : TreeExs) (f : Fixed) → given_by text (holding s cs) t v ≡ Some f → AllKnown cs (names_in_some t ++ names_waited v es)
     constant_known t None es f h = absurd (none_some h)
     constant_known t (Some e) es f h =
-        let p = and_then_some (accepted text (holding s cs) t) (constant_in (gives text (holding s cs) e)) f h in
-        let q = and_then_some as_constant (operand_in (gives text (holding s cs) e)) p.0 p.1 in
-        known_append cs (names_in_some t) (names_in e) (accepted_known t p.0 f p.2) (operand_names e q.0 q.1)
+        let p = and_then_some (accepted text (holding s cs) t) (option_and_then as_constant (early_gives text (holding s cs) e)) f h in
+        let q = and_then_some as_constant (early_gives text (holding s cs) e) p.0 p.1 in
+        known_append cs (names_in_some t) (names_in e) (accepted_known t p.0 f p.2) (operand_names e q.0 (late (call_in e) (operand_in (gives text (holding s cs) e)) q.0 q.1))
 
     variable_known : (t v : Option TreeEx) (es : TreeExs) (n k : ℕ) (u : ValueType) → variable_type text (holding s cs) t v es n k ≡ Some u → AllKnown cs (variable_mentions t v es)
     variable_known (Some e) v es n k u h = stated_known e u h
@@ -265,8 +267,9 @@ module _ (text : List ℕ) (s : Scope) where
     constant_same : (t v : Option TreeEx) (es : TreeExs) → AllSame text s cs ds (names_in_some t ++ names_waited v es) → given_by text (holding s cs) t v ≡ given_by text (holding s ds) t v
     constant_same t None es all = refl
     constant_same t (Some e) es all =
-        ap (λ (o : Option Gives). option_and_then (accepted text (holding s cs) t) (constant_in o)) (gives_same text s cs ds e (all_right text s cs ds (names_in_some t) (names_in e) all))
-        ∙ accepted_all t (constant_in (gives text (holding s ds) e)) (all_left text s cs ds (names_in_some t) (names_in e) all)
+        ap (λ (o : Option Gives). option_and_then (accepted text (holding s cs) t) (option_and_then as_constant (option_and_then (early (call_in e)) (operand_in o))))
+        (gives_same text s cs ds e (all_right text s cs ds (names_in_some t) (names_in e) all))
+        ∙ accepted_all t (option_and_then as_constant (early_gives text (holding s ds) e)) (all_left text s cs ds (names_in_some t) (names_in e) all)
 
     variable_same : (t v : Option TreeEx) (es : TreeExs) (n k : ℕ) → AllSame text s cs ds (variable_mentions t v es) → variable_type text (holding s cs) t v es n k ≡ variable_type text (holding s ds) t v es n k
     variable_same (Some e) v es n k all = stated_same text s cs ds e all

@@ -1,5 +1,5 @@
 -- What an expression gives, and which rules fail in it, rest on the constants and variables that it names and on no others.
-use Rattle.std.proofs.Common.{◌≡◌, ℕ, Bool, true, false, List, [], ◌∷◌, ◌++◌, ◌⊎◌, inl, inr, Option, Some, None, refl, sym, ap, ◌∙◌, subst}
+use Rattle.std.proofs.Common.{◌≡◌, ℕ, Bool, true, false, List, [], ◌∷◌, ◌++◌, ◌⊎◌, inl, inr, Option, Some, None, refl, sym, ap, ◌∙◌, subst, cond}
 use Rattle.std.specs.Prelude.{◌+◌, option_and_then}
 use Rattle.std.specs.Option.{option_map}
 use Rattle.base.specs.declared.pos.Pos.{Pos}
@@ -9,10 +9,10 @@ use Rattle.syntax.specs.FirstBytes.{first_pos}
 use Rattle.syntax.specs.Expressions.{Ex as TreeEx, Exs as TreeExs, Elements as TreeElements, no_elements, element, number, string, name, unary, binary, paren, call, selector, index, slice, array_type, slice_type, literal, elements, some, spelled}
 use Rattle.syntax.specs.Expressions as tree
 use Rattle.type_faults.specs.declared.fault.Fault.{Fault}
-use Rattle.type_faults.specs.Faults.{IsFault, FormFails}
+use Rattle.type_faults.specs.Faults.{IsFault, FormFails, fault}
 use Rattle.type_faults.specs.Given.{both}
 use Rattle.type_faults.proofs.Options.{none_some, same_some}
-use Rattle.operators.specs.Operands.{Operand}
+use Rattle.operators.specs.Operands.{Operand, constant, value, nil}
 use Rattle.operators.specs.Operators.{has_rules}
 use Rattle.operators.specs.Faults.{prefix_fault, pair_fault}
 use Rattle.names.specs.declared.scope.Declared.{Declared}
@@ -25,12 +25,18 @@ use Rattle.operand_parts.specs.PartFaults.{selector_fault, index_fault}
 use Rattle.operand_parts.specs.ArrayTypes.{length_of, array_with, length_fault, array_fault}
 use Rattle.operand_parts.specs.Literals.{elided, type_elided, element_part}
 use Rattle.operand_parts.specs.LiteralValues.{Placed, ElementsFail}
-use Rattle.expression_types.specs.Typing.{Gives, one, global_read, constant_read, name_operand, prefix_gives, pair_gives, operand_in, Seen, Callee, callee_value, callee_declared, called_with, spread_over, callee, literal_given, literal_gives, gives, stated_type, placed, seen}
-use Rattle.expression_types.specs.Faults.{WhereTaken, single_fault, CallFails, CalleeFails, Fails, StatedFails, FailsInElements, FailsInEach, FailsInLiteral}
+use Rattle.given_values.specs.Given.{Gives, one, global_read, constant_read, name_operand, prefix_gives, pair_gives, operand_in, Seen, Callee, callee_value, callee_declared, spread_over, callee, measurer}
+use Rattle.expression_types.specs.Typing.{literal_given, literal_gives, gives, stated_type, placed, seen, call_in, early, early_gives, called_quietly}
+use Rattle.given_values.specs.GivenFaults.{single_fault, CallFails, CalleeFails}
+use Rattle.expression_types.specs.Faults.{WhereTaken, Fails, StatedFails, FailsInElements, FailsInEach, FailsInLiteral, inner_fault, quiet_fault, early_fault, FailsEarly}
 use Rattle.package_values.specs.Needs.{names_in, names_in_each, names_in_elements, names_in_bound}
 use Rattle.package_values.proofs.Growth.{known}
 use Rattle.package_values.proofs.Holding.{holding, select_same, selector_fault_same, part_same, literal_same, shape_back}
 use Rattle.package_values.proofs.Literals.{placed_alike}
+use Rattle.operand_calls.specs.Calls.{has_call}
+use Rattle.operand_calls.proofs.Alike.{call_pos_alike}
+use Rattle.base.specs.declared.value_type.ValueType.TheVariants.{Int, Bool as Boolean, Struct, Array}
+use Rattle.type_faults.specs.declared.fault.FaultKind.TheVariants.{OutOfProfile}
 
 -- rules that give the same of each
 then_same : {A B : Type 0} (k m : A → Option B) → ((x : A) → k x ≡ m x) → (o : Option A) → option_and_then k o ≡ option_and_then m o
@@ -119,9 +125,9 @@ module _ (text : List ℕ) (s : Scope) (cs ds : List (Option Known)) where
     gives_same (binary at op a b) all = two_same (pair_gives at op) a b (gives_same a (all_left (names_in a) (names_in b) all)) (gives_same b (all_right (names_in a) (names_in b) all))
     gives_same (paren at e) all = gives_same e all
     gives_same (call f es spread) all =
-        ap (λ (k : Callee). called_with (first_pos f) (spread_over spread k) (seen text (holding s cs) es))
+        ap (λ (k : Callee). called_quietly (first_pos f) (spread_over spread k) (seen text (holding s cs) es))
         (callee_same f (all_left (names_in f) (names_in_each es) all) (gives_same f (all_left (names_in f) (names_in_each es) all)))
-        ∙ ap (λ (os : List Seen). called_with (first_pos f) (spread_over spread (callee text (holding s ds) (name_in f) (gives text (holding s ds) f))) os)
+        ∙ ap (λ (os : List Seen). called_quietly (first_pos f) (spread_over spread (callee text (holding s ds) (name_in f) (gives text (holding s ds) f))) os)
         (seen_same es (all_right (names_in f) (names_in_each es) all))
     gives_same (selector e at n) all =
         ap (λ (o : Option Gives). option_map one (option_and_then (selected text (holding s cs) n) (operand_in o))) (gives_same e all)
@@ -139,8 +145,9 @@ module _ (text : List ℕ) (s : Scope) (cs ds : List (Option Known)) where
     stated_same (name n) all = refl
     stated_same (paren at e) all = stated_same e all
     stated_same (array_type at len e) all =
-        ap (λ (o : Option Gives). array_with s.types (option_and_then length_of (operand_in o)) (stated_type text (holding s cs) e)) (gives_same len (all_left (names_in len) (names_in e) all))
-        ∙ ap (array_with s.types (option_and_then length_of (operand_in (gives text (holding s ds) len)))) (stated_same e (all_right (names_in len) (names_in e) all))
+        ap (λ (o : Option Gives). array_with s.types (option_and_then length_of (option_and_then (early (call_in len)) (operand_in o))) (stated_type text (holding s cs) e))
+        (gives_same len (all_left (names_in len) (names_in e) all))
+        ∙ ap (array_with s.types (option_and_then length_of (early_gives text (holding s ds) len))) (stated_same e (all_right (names_in len) (names_in e) all))
     stated_same e all = refl
 
     placed_same : (es : TreeElements) (t : Option ValueType) (n : ℕ) → AllSame (names_in_elements es) → placed text (holding s cs) t n es ≡ placed text (holding s ds) t n es
@@ -199,7 +206,22 @@ module _ (text : List ℕ) (s : Scope) (cs ds : List (Option Known)) where
   abbrev CallsFail : List (Option Known) → TreeEx → TreeExs → Bool → Fault → Type 0
   CallsFail xs g es spread f =
       (CalleeFails text (holding s xs) (name_in g) (λ h. Fails text (holding s xs) g h) (gives text (holding s xs) g) f ⊎ FailsInEach text (holding s xs) es f)
-      ⊎ CallFails (first_pos g) (spread_over spread (callee text (holding s xs) (name_in g) (gives text (holding s xs) g))) (seen text (holding s xs) es) f
+      ⊎ (CallFails (first_pos g) (spread_over spread (callee text (holding s xs) (name_in g) (gives text (holding s xs) g))) (seen text (holding s xs) es) f
+      ⊎ IsFault (quiet_fault text (holding s xs) (spread_over spread (callee text (holding s xs) (name_in g) (gives text (holding s xs) g))) es (seen text (holding s xs) es)) f)
+
+  inner_same : (e : TreeEx) (o : Option Operand) → inner_fault text (holding s cs) e o ≡ inner_fault text (holding s ds) e o
+  inner_same e None = refl
+  inner_same e (Some (constant c)) = refl
+  inner_same e (Some nil) = refl
+  inner_same e (Some (value Int x)) = refl
+  inner_same e (Some (value Boolean x)) = refl
+  inner_same e (Some (value (Struct k) x)) = refl
+  inner_same e (Some (value (Array n t) x)) =
+      ap (λ at. cond (has_call x) (Some (fault OutOfProfile at)) None) (call_pos_alike text (holding s cs) (holding s ds) (λ word. refl) e)
+
+  quiet_same : (k : Callee) (es : TreeExs) (os : List Seen) → quiet_fault text (holding s cs) k es os ≡ quiet_fault text (holding s ds) k es os
+  quiet_same (measurer m) (some e tree.none) (o ∷ []) = inner_same e (operand_in o.gives)
+  quiet_same k es os = refl
 
   call_back : (g : TreeEx) (es : TreeExs) (spread : Bool) (f : Fault) → gives text (holding s cs) g ≡ gives text (holding s ds) g
       → callee text (holding s cs) (name_in g) (gives text (holding s cs) g) ≡ callee text (holding s ds) (name_in g) (gives text (holding s ds) g)
@@ -208,9 +230,14 @@ module _ (text : List ℕ) (s : Scope) (cs ds : List (Option Known)) where
   call_back g es spread f same k os into each (inl (inl h)) =
       inl (inl (callee_fails (name_in g) (λ x. Fails text (holding s cs) g x) (λ x. Fails text (holding s ds) g x) (gives text (holding s cs) g) (gives text (holding s ds) g) same f into h))
   call_back g es spread f same k os into each (inl (inr h)) = inl (inr (each h))
-  call_back g es spread f same k os into each (inr h) =
-      inr (subst (λ (c : Callee). CallFails (first_pos g) (spread_over spread c) (seen text (holding s cs) es) f) (sym k)
-      (subst (λ (l : List Seen). CallFails (first_pos g) (spread_over spread (callee text (holding s ds) (name_in g) (gives text (holding s ds) g))) l f) (sym os) h))
+  call_back g es spread f same k os into each (inr (inl h)) =
+      inr (inl (subst (λ (c : Callee). CallFails (first_pos g) (spread_over spread c) (seen text (holding s cs) es) f) (sym k)
+      (subst (λ (l : List Seen). CallFails (first_pos g) (spread_over spread (callee text (holding s ds) (name_in g) (gives text (holding s ds) g))) l f) (sym os) h)))
+  call_back g es spread f same k os into each (inr (inr h)) =
+      let d = spread_over spread (callee text (holding s ds) (name_in g) (gives text (holding s ds) g)) in
+      inr (inr (subst (λ (c : Callee). IsFault (quiet_fault text (holding s cs) (spread_over spread c) es (seen text (holding s cs) es)) f) (sym k)
+      (subst (λ (l : List Seen). IsFault (quiet_fault text (holding s cs) d es l) f) (sym os)
+      (subst (λ (x : Option Fault). IsFault x f) (sym (quiet_same d es (seen text (holding s ds) es))) h))))
 
   left_out_back : (e : TreeEx) (f : Fault) → (Fails text (holding s ds) e f → Fails text (holding s cs) e f) → Fails text (holding s ds) e f ⊎ FormFails (first_pos e) f → Fails text (holding s cs) e f ⊎ FormFails (first_pos e) f
   left_out_back e f into (inl h) = inl (into h)
@@ -219,14 +246,18 @@ module _ (text : List ℕ) (s : Scope) (cs ds : List (Option Known)) where
   -- an array type
   abbrev LengthFails : List (Option Known) → Pos → TreeEx → TreeEx → Fault → Type 0
   LengthFails xs at len e f =
-      IsFault (length_fault (first_pos len) (operand_in (gives text (holding s xs) len))) f
-      ⊎ IsFault (array_fault s.types at (option_and_then length_of (operand_in (gives text (holding s xs) len))) (stated_type text (holding s xs) e)) f
+      IsFault (length_fault (first_pos len) (early_gives text (holding s xs) len)) f
+      ⊎ IsFault (array_fault s.types at (option_and_then length_of (early_gives text (holding s xs) len)) (stated_type text (holding s xs) e)) f
 
   length_back : (at : Pos) (len e : TreeEx) (f : Fault) → SameGiven len → stated_type text (holding s cs) e ≡ stated_type text (holding s ds) e → LengthFails ds at len e f → LengthFails cs at len e f
-  length_back at len e f g t (inl h) = inl (subst (λ (o : Option Gives). IsFault (length_fault (first_pos len) (operand_in o)) f) (sym g) h)
+  length_back at len e f g t (inl h) = inl (subst (λ (o : Option Gives). IsFault (length_fault (first_pos len) (option_and_then (early (call_in len)) (operand_in o))) f) (sym g) h)
   length_back at len e f g t (inr h) =
-      inr (subst (λ (o : Option Gives). IsFault (array_fault s.types at (option_and_then length_of (operand_in o)) (stated_type text (holding s cs) e)) f) (sym g)
-      (subst (λ (u : Option ValueType). IsFault (array_fault s.types at (option_and_then length_of (operand_in (gives text (holding s ds) len))) u) f) (sym t) h))
+      inr (subst (λ (o : Option Gives). IsFault (array_fault s.types at (option_and_then length_of (option_and_then (early (call_in len)) (operand_in o))) (stated_type text (holding s cs) e)) f) (sym g)
+      (subst (λ (u : Option ValueType). IsFault (array_fault s.types at (option_and_then length_of (early_gives text (holding s ds) len)) u) f) (sym t) h))
+
+  early_back : (e : TreeEx) (f : Fault) → SameGiven e → FailsEarly text (holding s ds) e f → (Fails text (holding s ds) e f → Fails text (holding s cs) e f) → FailsEarly text (holding s cs) e f
+  early_back e f g (inl h) into = inl (operand_back e f g into h)
+  early_back e f g (inr h) into = inr (subst (λ (o : Option Gives). IsFault (early_fault (call_in e) (operand_in o)) f) (sym g) h)
 
   -- a literal, by its elements
   literal_back : (first : Pos) (t : Option ValueType) (es : TreeElements) (f : Fault) → placed text (holding s cs) t 0 es ≡ placed text (holding s ds) t 0 es
@@ -280,7 +311,7 @@ module _ (text : List ℕ) (s : Scope) (cs ds : List (Option Known)) where
         let left = all_left (names_in len) (names_in e) all in
         let right = all_right (names_in len) (names_in e) all in
         let same = gives_same len left in
-        either (either (operand_back len f same (fails_back len f left)) (stated_back e f right)) (length_back at len e f same (stated_same e right)) h
+        either (either (λ k. early_back len f same k (fails_back len f left)) (stated_back e f right)) (length_back at len e f same (stated_same e right)) h
     stated_back e f all h = h
 
     elements_back : (es : TreeElements) (t : Option ValueType) (f : Fault) → AllSame (names_in_elements es) → FailsInElements text (holding s ds) t es f → FailsInElements text (holding s cs) t es f

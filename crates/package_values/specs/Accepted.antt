@@ -12,7 +12,8 @@ use Rattle.names.specs.declared.scope.Known.{Known}
 use Rattle.names.specs.declared.scope.Known.TheVariants as known_as
 use Rattle.names.specs.Universe.{is_blank}
 use Rattle.names.specs.Scope.{Scope, declaration, known}
-use Rattle.expression_types.specs.Typing.{own_type, taken, spec_wanted, gives, stated_type, seen}
+use Rattle.given_values.specs.Given.{own_type, taken}
+use Rattle.expression_types.specs.Typing.{spec_wanted, gives, stated_type, seen}
 use Rattle.package_values.specs.declared.items.Role.{Role}
 use Rattle.package_values.specs.declared.items.Role.TheVariants as role
 use Rattle.package_values.specs.Values.{Item, items_in, given_by, variable_type}

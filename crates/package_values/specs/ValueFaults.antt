@@ -19,8 +19,10 @@ use Rattle.names.specs.declared.scope.Declared.{Declared}
 use Rattle.names.specs.declared.scope.Declared.TheVariants.{Constant, Global}
 use Rattle.names.specs.Universe.{is_blank}
 use Rattle.names.specs.Scope.{Scope, declaration}
-use Rattle.expression_types.specs.Typing.{wanted_by, accepts_operand, operand_in, Seen, are_single, spec_wanted, stated_type, seen}
-use Rattle.expression_types.specs.Faults.{SinglesFail, CountFails, TakeFails, FailsInEach, FailsBefore}
+use Rattle.given_values.specs.Given.{wanted_by, accepts_operand, operand_in, Seen, are_single}
+use Rattle.expression_types.specs.Typing.{spec_wanted, stated_type, seen, call_in}
+use Rattle.given_values.specs.GivenFaults.{SinglesFail, CountFails, TakeFails}
+use Rattle.expression_types.specs.Faults.{FailsInEach, FailsBefore, early_fault}
 use Rattle.package_values.specs.declared.items.Role.{Role}
 use Rattle.package_values.specs.declared.items.Role.TheVariants as role
 use Rattle.package_values.specs.Values.{Item, items_in}
@@ -43,6 +45,11 @@ value_fault t pos (Some x) = if accepts_operand (wanted_by t) x then fitting_val
 abbrev pub ValuesFail : Option ValueType → List Seen → Fault → Type 0
 ValuesFail t [] f = ⊥
 ValuesFail t (o ∷ os) f = IsFault (value_fault t o.at (operand_in o.gives)) f ⊎ ValuesFail t os f
+
+-- values that are worked out by `len` or `cap`
+abbrev pub EarlyFail : TreeExs → List Seen → Fault → Type 0
+EarlyFail (some e es) (o ∷ os) f = IsFault (early_fault (call_in e) (operand_in o.gives)) f ⊎ EarlyFail es os f
+EarlyFail es os f = ⊥
 
 -- the name of the constant or variable of a number: `init` is none, and the first declaration of a name stays
 abbrev pub is_this_value : ℕ → Option Declared → Bool
@@ -87,7 +94,8 @@ module _ (text : List ℕ) (s : Scope) where
   abbrev pub SpecFails : Pos → ValueSpec → Fault → Type 0
   SpecFails pos v f =
       (FailsBefore text s v.type_expr f ⊎ (FailsInEach text s v.values f ⊎ SinglesFail (seen text s v.values) f))
-      ⊎ (ValuesFail (type_asked v.type_expr) (seen text s v.values) f ⊎ CountFails (single_count (seen text s v.values)) (length v.names) (fault WrongCount pos) f)
+      ⊎ (ValuesFail (type_asked v.type_expr) (seen text s v.values) f ⊎ (CountFails (single_count (seen text s v.values)) (length v.names) (fault WrongCount pos) f
+      ⊎ EarlyFail v.values (seen text s v.values) f))
 
   abbrev pub SpecsFail : Pos → List ValueSpec → Fault → Type 0
   SpecsFail pos [] f = ⊥

@@ -16,7 +16,8 @@ use Rattle.operators.specs.Operands.{Operand, constant, value, nil}
 use Rattle.names.specs.declared.scope.Known.{Known}
 use Rattle.names.specs.declared.scope.Known.TheVariants as known_as
 use Rattle.names.specs.Scope.{Scope, with_known}
-use Rattle.expression_types.specs.Typing.{Gives, operand_in, own_type, many, gives, stated_type, seen}
+use Rattle.given_values.specs.Given.{Gives, operand_in, own_type, many}
+use Rattle.expression_types.specs.Typing.{gives, stated_type, seen, early_gives}
 use Rattle.package_values.specs.declared.items.Role.{Role}
 use Rattle.package_values.specs.declared.items.Role.TheVariants as role
 
@@ -89,7 +90,7 @@ module _ (text : List ℕ) where
   -- the value of a constant, as far as the constants are known in a scope
   abbrev pub given_by : Scope → Option TreeEx → Option TreeEx → Option Fixed
   given_by s t None = None
-  given_by s t (Some e) = option_and_then (accepted s t) (constant_in (gives text s e))
+  given_by s t (Some e) = option_and_then (accepted s t) (option_and_then as_constant (early_gives text s e))
 
   -- the type that the values of a declaration of n names give the variable at a place: that of its own value, or of a result of the call that
   -- stands alone and has n of them; a faulty value gives none

@@ -10,10 +10,13 @@ ghost use Rattle.type_faults.specs.Least.{IsLeast};
 ghost use Rattle.type_faults.specs.Faults.{IsFault};
 ghost use Rattle.names.specs.Universe.{is_blank};
 ghost use Rattle.names.specs.Scope.{scope_of, declaration};
-ghost use Rattle.expression_types.specs.Typing.{operand_in, seen, stated_type};
-ghost use Rattle.expression_types.specs.Faults.{SinglesFail, CountFails, FailsInEach};
-ghost use Rattle.expression_types.specs.Passing.{gives_of, seens, type_before};
-ghost use Rattle.package_values.specs.ValueFaults.{single_count, fitting_value_fault, value_fault, ValuesFail, is_this_value, value_name_fault, asked_before, SpecFails, SpecsFail, form_fault, FormsFail, is_bare, InitialsFail, VariablesFail, AllVariablesFail, first_of, cycle_place, DeclarationsFail, NamesFail, Recurs, ItemsFail};
+ghost use Rattle.given_values.specs.Given.{operand_in};
+ghost use Rattle.expression_types.specs.Typing.{seen, stated_type};
+ghost use Rattle.given_values.specs.GivenFaults.{SinglesFail, CountFails};
+ghost use Rattle.expression_types.specs.Faults.{FailsInEach};
+ghost use Rattle.given_values.specs.Passing.{gives_of, seens};
+ghost use Rattle.expression_types.specs.Passing.{type_before};
+ghost use Rattle.package_values.specs.ValueFaults.{single_count, fitting_value_fault, value_fault, ValuesFail, EarlyFail, is_this_value, value_name_fault, asked_before, SpecFails, SpecsFail, form_fault, FormsFail, is_bare, InitialsFail, VariablesFail, AllVariablesFail, first_of, cycle_place, DeclarationsFail, NamesFail, Recurs, ItemsFail};
 ghost use Rattle.package_values.specs.Passing.{item_views, DeclarationFails, recursion_fault, is_marked};
 
 use crate::items::{Item, Role, items_in};
@@ -22,8 +25,10 @@ use crate::values::constant_in;
 use base::{NoMemory, Pos, ValueType};
 use components::strong_components;
 use expression_types::{
-    Stated, agrees, are_single, check_before, check_list, count_fault, fault_before, is_single,
-    singles_fault, spec_wanted, take_fault, wanted_by,
+    Stated, check_before, check_list, early_value_fault, fault_before, spec_wanted,
+};
+use given_values::{
+    agrees, are_single, count_fault, is_single, singles_fault, take_fault, wanted_by,
 };
 use names::{Declared, Scope, is_blank, spelled};
 use operators::held_fault;
@@ -42,7 +47,7 @@ fn type_asked(stated: &Option<Stated>) -> Option<ValueType>
 }
 
 /// How many values there are, where each expression gives one.
-fn single_count(items: &[expression_types::Item]) -> Option<usize>
+fn single_count(items: &[given_values::Item]) -> Option<usize>
     ensures { result ≡ single_count (seens items.now) }
 {
     if are_single(items) {
@@ -53,7 +58,7 @@ fn single_count(items: &[expression_types::Item]) -> Option<usize>
 }
 
 /// The fault of a value of a type that a declaration has or not: of another type, beyond the type, or no constant.
-fn value_fault(value_type: Option<ValueType>, item: &expression_types::Item) -> Option<Fault>
+fn value_fault(value_type: Option<ValueType>, item: &given_values::Item) -> Option<Fault>
     ensures { result ≡ value_fault value_type item.now.pos (operand_in (option_map gives_of item.now.gives)) }
 {
     if !is_single(&item.gives) {
@@ -74,12 +79,26 @@ fn value_fault(value_type: Option<ValueType>, item: &expression_types::Item) -> 
     }
 }
 
-fn values_fault(value_type: Option<ValueType>, items: &[expression_types::Item]) -> Option<Fault>
+fn values_fault(value_type: Option<ValueType>, items: &[given_values::Item]) -> Option<Fault>
     ensures { IsLeast (ValuesFail value_type (seens items.now)) result }
 {
     let mut fault = None;
     for item in items {
         fault = lesser(fault, value_fault(value_type, item));
+    }
+    fault
+}
+
+/// The fault of values that are worked out by `len` or `cap`.
+fn early_faults(values: &[Expr], items: &[given_values::Item]) -> Option<Fault>
+    ensures { IsLeast (EarlyFail (exs_of values.now) (seens items.now)) result }
+{
+    let mut fault = None;
+    for index in 0..values.len().min(items.len()) {
+        fault = lesser(
+            fault,
+            early_value_fault(&values[index], &items[index].gives),
+        );
     }
     fault
 }
@@ -102,10 +121,11 @@ fn spec_fault(
     };
     let expressions = lesser(listed.fault, singles_fault(&listed.items));
     let typed = lesser(fault_before(&stated), expressions);
-    let values = lesser(
-        values_fault(type_asked(&stated), &listed.items),
+    let counted = lesser(
         count_fault(single_count(&listed.items), spec.names.len(), own),
+        early_faults(&spec.values, &listed.items),
     );
+    let values = lesser(values_fault(type_asked(&stated), &listed.items), counted);
     Ok(lesser(typed, values))
 }
 
@@ -169,7 +189,7 @@ fn initials_fault(
     pos: Pos,
     spec: &ValueSpec,
     stated: &Option<Stated>,
-    items: &[expression_types::Item],
+    items: &[given_values::Item],
 ) -> Result<Option<Fault>, NoMemory>
     requires types { type_before stated.now ≡ option_map (stated_type text.now (scope_of scope.now)) (ex_in spec.now.type_expr) }
     requires values { seens items.now ≡ seen text.now (scope_of scope.now) (exs_of spec.now.values.items) }

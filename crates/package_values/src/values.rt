@@ -8,9 +8,11 @@ ghost use Rattle.type_faults.specs.Given.{allowed};
 ghost use Rattle.components.specs.Components.{component_lists};
 ghost use Rattle.names.specs.Scope.{scope_of, known};
 ghost use Rattle.names.specs.declared.scope.Known.TheVariants.{Constant as ConstantKnown, Variable as VariableKnown};
-ghost use Rattle.expression_types.specs.Typing.{many};
-ghost use Rattle.expression_types.specs.Passing.{gives_of, seens, type_before};
-ghost use Rattle.package_values.specs.Values.{constant_in, with_type, accepted_before, given_by, initial_type, variable_type, given, settled, items_in};
+ghost use Rattle.given_values.specs.Given.{many};
+ghost use Rattle.given_values.specs.Passing.{gives_of, seens};
+ghost use Rattle.expression_types.specs.Passing.{type_before};
+ghost use Rattle.operators.specs.Passing.{operand_of};
+ghost use Rattle.package_values.specs.Values.{as_constant, constant_in, with_type, accepted_before, given_by, initial_type, variable_type, given, settled, items_in};
 ghost use Rattle.package_values.specs.Passing.{item_of, item_views, given_at, each_given, all_given};
 
 use crate::items::{Item, Role, items_in};
@@ -18,9 +20,8 @@ use crate::needs::mentioned;
 use base::{NoMemory, ValueType, same_type};
 use components::{Component, strong_components};
 use constants::{Fixed, constant_type, is_held};
-use expression_types::{
-    Gives, Stated, check_before, check_expr, check_list, check_stated, many_types, own_type,
-};
+use expression_types::{Stated, check_before, check_early, check_expr, check_list, check_stated};
+use given_values::{Gives, many_types, own_type};
 use names::{Known, Scope, ValueId};
 use operators::Operand;
 use std::alloc::Global;
@@ -32,6 +33,16 @@ pub fn constant_in(gives: &Option<Gives>) -> Option<Fixed>
 {
     match gives {
         Some(Gives::One(Operand::Constant(fixed))) => Some(*fixed),
+        _ => None,
+    }
+}
+
+/// The constant that an operand is.
+fn constant_of(operand: &Option<Operand>) -> Option<Fixed>
+    ensures { result ≡ option_and_then as_constant (option_map operand_of operand.now) }
+{
+    match operand {
+        Some(Operand::Constant(fixed)) => Some(*fixed),
         _ => None,
     }
 }
@@ -75,8 +86,8 @@ fn constant_value(
     let Some(value) = item.value else {
         return Ok(None);
     };
-    let checked = check_expr(alloc, text, scope, value)?;
-    let fixed = constant_in(&checked.gives);
+    let checked = check_early(alloc, text, scope, value)?;
+    let fixed = constant_of(&checked.operand);
     drop(checked);
     match fixed {
         Some(fixed) => {
@@ -88,7 +99,7 @@ fn constant_value(
 }
 
 /// The type at a place of the call that stands alone, where it has as many results as there are names.
-fn nth_type(items: &[expression_types::Item], names: usize, place: usize) -> Option<ValueType>
+fn nth_type(items: &[given_values::Item], names: usize, place: usize) -> Option<ValueType>
     ensures { result ≡ option_and_then (λ m. allowed (length m.types == names) (slice_get m.types place)) (many (seens items.now)) }
 {
     match many_types(items) {

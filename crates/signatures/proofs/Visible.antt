@@ -158,7 +158,7 @@ wider_shown T scope wider sites more globals into e d h = tt
 
 -- a predeclared name is no variable
 predeclared_shown : (T : Table) (scope : List ℕ) (sites : List Site) (globals : List ℕ) (name : List ℕ) (d : Declared) → predeclared name ≡ Some d → IsShown T scope sites globals d
-predeclared_shown T scope sites globals name d is = predeclared_is (IsShown T scope sites globals) tt tt (λ b. tt) tt (λ line. tt) tt tt tt name d is
+predeclared_shown T scope sites globals name d is = predeclared_is (IsShown T scope sites globals) tt tt (λ b. tt) tt (λ line. tt) tt (λ m. tt) tt tt name d is
 
 -- a name that has a number or none
 numbered_shown : (s : Scope) (scope : List ℕ) (sites : List Site) (globals : List ℕ) (name : List ℕ) (o : Option ℕ) (d : Declared) → ((k : ℕ) → o ≡ Some k → slice_get s.declared k ≡ Some d → IsShown s.types scope sites globals d)

@@ -31,10 +31,12 @@ use Rattle.names.specs.Universe.{is_blank}
 use Rattle.names.specs.Scope.{Scope, type_number, type_tree, type_trees, is_here, with_variable, with_strings}
 use Rattle.names.specs.Naming.{name_in}
 use Rattle.names.proofs.Trees.{int_tree}
-use Rattle.expression_types.specs.declared.wants.Wanted.{Wanted}
-use Rattle.expression_types.specs.declared.wants.Wanted.TheVariants.{Own, Typed, Unknown}
-use Rattle.expression_types.specs.Typing.{Part, said, valued, Gives, one, called, asking, quoted, printed, panicked, exited, operand_in, Seen, value_types, asked, taken, gives, seen, wanted_by}
-use Rattle.expression_types.proofs.InForm.{Agrees, AreAccepted, PartFits, PartsFit, GivesFit, AllFit, OperandFits, CallFits, value_fits, operand_fits, taken_fits, asked_types, gives_fit, seen_fit, maybe_fits}
+use Rattle.given_values.specs.declared.wants.Wanted.{Wanted}
+use Rattle.given_values.specs.declared.wants.Wanted.TheVariants.{Own, Typed, Unknown}
+use Rattle.given_values.specs.Given.{Part, said, valued, Gives, one, called, asking, quoted, printed, panicked, exited, operand_in, Seen, value_types, asked, taken, wanted_by}
+use Rattle.expression_types.specs.Typing.{gives, seen}
+use Rattle.given_values.proofs.ValuesFit.{Agrees, AreAccepted, PartFits, PartsFit, GivesFit, AllFit, OperandFits, CallFits, value_fits, operand_fits, taken_fits, asked_types, maybe_fits}
+use Rattle.expression_types.proofs.InForm.{gives_fit, seen_fit}
 use Rattle.signatures.specs.declared.slots.Slot.{Slot}
 use Rattle.signatures.specs.Entries.{slot_with, slots_each}
 use Rattle.signatures.proofs.Growth.{Extends, extends_twice}

@@ -12,11 +12,13 @@ use Rattle.type_faults.specs.Faults.{fault, IsFault}
 use Rattle.type_faults.proofs.Decided.{Tested}
 use Rattle.type_faults.proofs.Leasts.{least_join, leaf}
 use Rattle.names.specs.Scope.{Scope}
-use Rattle.expression_types.specs.declared.wants.Wanted.{Wanted}
-use Rattle.expression_types.specs.declared.gives.Item.{Item}
-use Rattle.expression_types.specs.Typing.{Seen, count, seen}
-use Rattle.expression_types.specs.Faults.{count_fault, PlacedFail, CountFails, TakeFails, FailsInEach}
-use Rattle.expression_types.specs.Passing.{seens}
+use Rattle.given_values.specs.declared.wants.Wanted.{Wanted}
+use Rattle.given_values.specs.declared.gives.Item.{Item}
+use Rattle.given_values.specs.Given.{Seen, count}
+use Rattle.expression_types.specs.Typing.{seen}
+use Rattle.given_values.specs.GivenFaults.{count_fault, PlacedFail, CountFails, TakeFails}
+use Rattle.expression_types.specs.Faults.{FailsInEach}
+use Rattle.given_values.specs.Passing.{seens}
 use Rattle.signatures.specs.Failing.{fault_where}
 use Rattle.simple_statements.specs.SimpleStatements.{Returns, lefts, all_wanted, all_new_wanted, has_all}
 use Rattle.simple_statements.specs.SimpleFaults.{names_place, lefts_place, ReturnFails, LeftsFail, NewNamesFail, TwiceFails, FailsInAssignment, FailsInDefinition}

@@ -38,11 +38,13 @@ use Rattle.names.specs.declared.scope.Known.TheVariants as known_as
 use Rattle.names.specs.Scope.{Scope, declaration, is_here, known}
 use Rattle.names.specs.Naming.{name_in}
 use Rattle.names.proofs.Settled.{IsKnown, IsTyped, IsSettled, declared_typed}
-use Rattle.expression_types.specs.Typing.{global_read, constant_read, name_operand, Gives, one, called, asking, quoted, printed, panicked, exited, operand_in, Seen, wanted_by, many, count, taken, gives, seen}
-use Rattle.expression_types.specs.Faults.{refused_fault, ValuesFail, CountFails, TakeFails, Fails, FailsInEach, FailsAsOperand}
-use Rattle.expression_types.proofs.DecidedValues.{given_all, operand_decided, take_decided, refused}
+use Rattle.given_values.specs.Given.{global_read, constant_read, name_operand, Gives, one, called, asking, quoted, printed, panicked, exited, operand_in, Seen, wanted_by, many, count, taken}
+use Rattle.expression_types.specs.Typing.{gives, seen}
+use Rattle.given_values.specs.GivenFaults.{refused_fault, ValuesFail, CountFails, TakeFails}
+use Rattle.expression_types.specs.Faults.{Fails, FailsInEach, FailsAsOperand}
+use Rattle.given_values.proofs.DecidedValues.{given_all, operand_decided, take_decided, refused}
 use Rattle.expression_types.proofs.Settled.{gives_decided, seen_decided}
-use Rattle.expression_types.proofs.Places.{Asks, AllAsk}
+use Rattle.given_values.proofs.Places.{Asks, AllAsk}
 use Rattle.signatures.specs.Entries.{slots_each}
 use Rattle.signatures.specs.Failing.{fault_where}
 use Rattle.signatures.proofs.SettledEntries.{where_tested, some_tested}

@@ -10,11 +10,11 @@ use Rattle.base.specs.declared.value_type.ValueType.{ValueType}
 use Rattle.type_faults.specs.Given.{allowed}
 use Rattle.type_faults.proofs.Options.{and_then_some, map_some, none_some}
 use Rattle.operators.specs.Operands.{type_of, as_value}
-use Rattle.expression_types.proofs.InForm.{typed_value}
+use Rattle.given_values.proofs.ValuesFit.{typed_value}
 use Rattle.names.specs.Scope.{Scope}
 use Rattle.names.proofs.Settled.{IsSettled}
-use Rattle.expression_types.specs.declared.wants.Wanted.{Wanted}
-use Rattle.expression_types.specs.Typing.{Seen, Many, type_in_one, fits_with, all_values, types_with, many, operand_in, value_in, values, single_types, value_types, values_agree, types_agree, each, taken}
+use Rattle.given_values.specs.declared.wants.Wanted.{Wanted}
+use Rattle.given_values.specs.Given.{Seen, Many, type_in_one, fits_with, all_values, types_with, many, operand_in, value_in, values, single_types, value_types, values_agree, types_agree, each, taken}
 use Rattle.signatures.specs.declared.slots.Slot.{Slot}
 use Rattle.signatures.specs.Entries.{slots_each}
 use Rattle.signatures.proofs.SettledEntries.{settled_with, AllTyped, each_typed}

@@ -17,11 +17,13 @@ use Rattle.type_faults.proofs.Decided.{Decided, Tested, further, mapped, after}
 use Rattle.type_faults.proofs.Options.{and_then_some, map_some}
 use Rattle.names.specs.Scope.{Scope}
 use Rattle.names.proofs.Settled.{IsSettled}
-use Rattle.expression_types.specs.Typing.{taken, declared_wanted, spec_wanted, stated_type, seen}
+use Rattle.given_values.specs.Given.{taken}
+use Rattle.expression_types.specs.Typing.{declared_wanted, spec_wanted, stated_type, seen}
 use Rattle.expression_types.specs.Faults.{FailsInEach, FailsBefore}
-use Rattle.expression_types.proofs.DecidedValues.{take_decided}
+use Rattle.given_values.proofs.DecidedValues.{take_decided}
 use Rattle.expression_types.proofs.Settled.{seen_decided, stated_decided}
-use Rattle.expression_types.proofs.Places.{AllAsk, spec_asks}
+use Rattle.given_values.proofs.Places.{AllAsk}
+use Rattle.expression_types.proofs.Places.{spec_asks}
 use Rattle.signatures.specs.declared.entries.Role.TheVariants.{Parameter}
 use Rattle.signatures.specs.Entries.{sites_of, entry_left, slot_with, slots_each}
 use Rattle.signatures.specs.EntryFaults.{EntriesFail}

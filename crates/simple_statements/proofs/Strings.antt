@@ -5,7 +5,7 @@ use Rattle.typed_syntax.specs.Syntax.{Piece, shown}
 use Rattle.typed.specs.View.{piece_of}
 use Rattle.typed.specs.declared.stmt.Piece.{Piece as PieceData}
 use Rattle.names.specs.Scope.{Scope, with_strings}
-use Rattle.expression_types.specs.Typing.{Part, said, valued}
+use Rattle.given_values.specs.Given.{Part, said, valued}
 use Rattle.simple_statements.specs.SimpleStatements.{strings_of, piece_from, pieces_from}
 
 pub no_strings : (s : Scope) → with_strings s [] ≡ s

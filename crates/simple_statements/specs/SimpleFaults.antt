@@ -22,8 +22,10 @@ use Rattle.names.specs.declared.scope.Declared.TheVariants as declared
 use Rattle.names.specs.Universe.{is_blank}
 use Rattle.names.specs.Scope.{Scope, declaration, is_here}
 use Rattle.names.specs.Naming.{name_in}
-use Rattle.expression_types.specs.Typing.{Gives, one, called, asking, quoted, printed, panicked, exited, operand_in, Seen, many, count, spec_wanted, gives, seen}
-use Rattle.expression_types.specs.Faults.{refused_fault, ValuesFail, PlacedFail, CountFails, TakeFails, Fails, FailsInEach, FailsAsOperand, FailsBefore}
+use Rattle.given_values.specs.Given.{Gives, one, called, asking, quoted, printed, panicked, exited, operand_in, Seen, many, count}
+use Rattle.expression_types.specs.Typing.{spec_wanted, gives, seen}
+use Rattle.given_values.specs.GivenFaults.{refused_fault, ValuesFail, PlacedFail, CountFails, TakeFails}
+use Rattle.expression_types.specs.Faults.{Fails, FailsInEach, FailsAsOperand, FailsBefore}
 use Rattle.signatures.specs.declared.entries.Role.TheVariants.{Parameter}
 use Rattle.signatures.specs.EntryFaults.{EntriesFail}
 use Rattle.signatures.specs.Failing.{fault_where}

@@ -24,9 +24,10 @@ use Rattle.names.specs.Blocks.{Blocks, innermost, insert}
 use Rattle.names.specs.Universe.{is_blank}
 use Rattle.names.specs.Scope.{Scope, is_here, with_variable, with_strings}
 use Rattle.names.specs.Naming.{name_in}
-use Rattle.expression_types.specs.declared.wants.Wanted.{Wanted}
-use Rattle.expression_types.specs.declared.wants.Wanted.TheVariants as wants
-use Rattle.expression_types.specs.Typing.{Part, said, valued, Gives, one, called, asking, quoted, printed, panicked, exited, operand_in, Seen, wanted_by, value_types, taken, spec_wanted, gives, stated_type, seen}
+use Rattle.given_values.specs.declared.wants.Wanted.{Wanted}
+use Rattle.given_values.specs.declared.wants.Wanted.TheVariants as wants
+use Rattle.given_values.specs.Given.{Part, said, valued, Gives, one, called, asking, quoted, printed, panicked, exited, operand_in, Seen, wanted_by, value_types, taken}
+use Rattle.expression_types.specs.Typing.{spec_wanted, gives, stated_type, seen}
 use Rattle.signatures.specs.declared.slots.Slot.{Slot}
 use Rattle.signatures.specs.declared.entries.Role.TheVariants.{Parameter}
 use Rattle.signatures.specs.Entries.{sites_of, entry_left, slot_with, slots_each, entries, behind_entries}

@@ -16,7 +16,8 @@ ghost use Rattle.simple_statements.specs.SimpleFaults.{new_name_fault, NewNamesF
 
 use crate::sides::{left_fault_of, target, wanted_of, with_left};
 use base::{NoMemory, Pos, SiteId};
-use expression_types::{Wanted, check_single};
+use expression_types::check_single;
+use given_values::Wanted;
 use names::{Blocks, Declared, Scope, is_blank, spelled};
 use operators::{TypedPlace, place_in};
 use signatures::{Slot, fault_where};

@@ -3,11 +3,11 @@
 ghost use Rattle.std.specs.Prelude.{◌≡◌, IfOk, OnOk, length, map, [], ◌∷◌};
 ghost use Rattle.typed.specs.View.{piece_of};
 ghost use Rattle.names.specs.Scope.{scope_of, with_strings};
-ghost use Rattle.expression_types.specs.Passing.{part_view};
+ghost use Rattle.given_values.specs.Passing.{part_view};
 ghost use Rattle.simple_statements.specs.SimpleStatements.{strings_of, piece_from, pieces_from};
 
 use base::NoMemory;
-use expression_types::Part;
+use given_values::Part;
 use names::Scope;
 use std::alloc::Global;
 use typed::Piece;

@@ -12,13 +12,15 @@ ghost use Rattle.operators.specs.Passing.{operand_of, typed_place_of};
 ghost use Rattle.names.specs.Universe.{is_blank};
 ghost use Rattle.names.specs.Scope.{scope_of, declaration};
 ghost use Rattle.names.specs.Naming.{name_in};
-ghost use Rattle.expression_types.specs.Typing.{operand_in, gives};
+ghost use Rattle.given_values.specs.Given.{operand_in};
+ghost use Rattle.expression_types.specs.Typing.{gives};
 ghost use Rattle.expression_types.specs.Faults.{FailsAsOperand};
 ghost use Rattle.simple_statements.specs.SimpleStatements.{target, place_type, place_value, left_of, wanted_of, is_blank_name, place_in, lefts, all_wanted, own_value};
 ghost use Rattle.simple_statements.specs.SimpleFaults.{left_fault, own_fault, place_fault, LeftSideFails, LeftsFail, OwnSideFails, lefts_place};
 
 use base::{NoMemory, Pos, ValueType};
-use expression_types::{Single, Wanted, check_single, wanted_by};
+use expression_types::{Single, check_single};
+use given_values::{Wanted, wanted_by};
 use names::{Declared, Scope, is_blank, name_in, spelled};
 use operators::{Operand, TypedPlace, is_place, place_in};
 use signatures::fault_where;

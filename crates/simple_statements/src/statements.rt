@@ -10,9 +10,10 @@ ghost use Rattle.typed_syntax.specs.Syntax.{return_stmt as given_back, none};
 ghost use Rattle.type_faults.specs.Least.{IsLeast};
 ghost use Rattle.type_faults.specs.Faults.{fault as fault_at, IsFault, FormFails};
 ghost use Rattle.names.specs.Scope.{scope_of, with_strings};
-ghost use Rattle.expression_types.specs.Typing.{count, seen, taken};
+ghost use Rattle.given_values.specs.Given.{count, taken};
+ghost use Rattle.expression_types.specs.Typing.{seen};
 ghost use Rattle.expression_types.specs.Faults.{FailsInEach};
-ghost use Rattle.expression_types.specs.Passing.{gives_of, seens};
+ghost use Rattle.given_values.specs.Passing.{gives_of, seens};
 ghost use Rattle.simple_statements.specs.SimpleStatements.{returns_view, assignment, strings_in, expressed, returned, lefts, all_wanted, simple_statement, behind_simple};
 ghost use Rattle.signatures.specs.Failing.{fault_where};
 ghost use Rattle.simple_statements.specs.SimpleFaults.{use_fault, ReturnFails, FailsInSimple, FailsInAssignment, FailsInDefinition, lefts_place};
@@ -24,9 +25,9 @@ use crate::operands::{numbered, pieces};
 use crate::sides::{check_lefts, lefts_pos};
 use crate::updating::{check_step, check_update};
 use base::{NoMemory, Pos, ValueType};
-use expression_types::{
-    Gives, Item, Wanted, check_expr, check_list, count, count_fault, placed_fault, take_fault,
-    taken, value_types,
+use expression_types::{check_expr, check_list};
+use given_values::{
+    Gives, Item, Wanted, count, count_fault, placed_fault, take_fault, taken, value_types,
 };
 use names::Scope;
 use operators::Operand;

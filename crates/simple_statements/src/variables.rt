@@ -9,7 +9,8 @@ ghost use Rattle.typed.specs.View.{exs_of_values, st_of, sts_of, site_in, left_o
 ghost use Rattle.type_faults.specs.Least.{IsLeast};
 ghost use Rattle.type_faults.specs.Given.{allowed};
 ghost use Rattle.names.specs.Scope.{scope_of};
-ghost use Rattle.expression_types.specs.Typing.{seen, stated_type, taken, spec_wanted};
+ghost use Rattle.given_values.specs.Given.{taken};
+ghost use Rattle.expression_types.specs.Typing.{seen, stated_type, spec_wanted};
 ghost use Rattle.expression_types.specs.Passing.{type_before};
 ghost use Rattle.type_faults.specs.Given.{with_last};
 ghost use Rattle.signatures.specs.Entries.{sites_of, entry_left};
@@ -20,9 +21,8 @@ ghost use Rattle.simple_statements.specs.SimpleFaults.{SpecTakeFails, SpecValues
 
 use crate::statements::{Line, Lines, assignment, types_where};
 use base::{NoMemory, Pos, SiteId, ValueType};
-use expression_types::{
-    Stated, check_before, check_list, fault_before, spec_wanted, take_fault, taken, value_types,
-};
+use expression_types::{Stated, check_before, check_list, fault_before, spec_wanted};
+use given_values::{take_fault, taken, value_types};
 use names::Scope;
 use signatures::{Role, Slot, check_entries, entry_lefts, sites_of, slots_each, slots_with};
 use std::alloc::Global;

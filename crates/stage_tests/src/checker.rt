@@ -34,6 +34,8 @@ i := 0; for i = 1; ; { break } => (set +v2 = 0) { (set v2 = 1) (loop;; { } { (br
 for f(1, true) < 2 { } => (loop; (< (f0 1 true) 2); { } { })
 for i := range 3 { for range i { } } => (count 3 +v2 { (count v2 _ { }) })
 i := 0; for i = range i { }; for _ = range 2 { } => (set +v2 = 0) (count v2 v2 { }) (count 2 _ { })
+var a [3]int; for i, x := range a { a[i] = x } => (new v2) (elements v5 of 3 v2 +v3 +v4 { (set v2[ v3 of 3]@38 = v4) })
+var a [2]bool; for range a { }; for i := range a { i = cap(a) - len(a) } => (new v2) (indices 2 _ { }) (indices 2 +v3 { (set v3 = 0) })
 return => (return)
 ";
 

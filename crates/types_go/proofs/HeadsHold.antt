@@ -10,7 +10,7 @@ use Rattle.typed.specs.Tables.{Table}
 use Rattle.names.specs.Scope.{Scope, beginning}
 use Rattle.names.specs.Types.{declared_type, array_type as array_of}
 use Rattle.operand_parts.specs.ArrayTypes.{length_of, array_with}
-use Rattle.expression_types.specs.Typing.{operand_in, gives, stated_type}
+use Rattle.expression_types.specs.Typing.{stated_type, early_gives}
 use Rattle.entered_types.specs.Entered.{OnlyEnters}
 use Rattle.entered_types.proofs.Keeping.{keeps_all}
 use Rattle.type_tables.specs.Told.{sized_structs}
@@ -42,7 +42,7 @@ module _ (text : List ℕ) (T : Table) (r s : Scope) (a : Alike T r s) (types : 
   ]
   stated_kept (paren at e) u h = stated_kept e u h
   stated_kept (array_type at len e) u h =
-      let length_in = λ (q : Scope). option_and_then length_of (operand_in (gives text q len)) in
+      let length_in = λ (q : Scope). option_and_then length_of (early_gives text q len) in
       array_stays (length_in r) (length_in s) (stated_type text r e) (stated_type text s e) u (length_kept text T r s a len)
       (stated_kept e) h
   stated_kept e u h = absurd (none_some h)

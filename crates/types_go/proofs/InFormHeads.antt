@@ -1,43 +1,41 @@
 -- Typed headers and declarations are in form.
-use Rattle.std.proofs.Common.{◌≡◌, ℕ, ◌+◌, ◌≤◌, Bool, true, false, cond, List, [], ◌∷◌, inl, inr, map, Option, Some, None, refl, sym, ap, ◌∙◌, subst, arith, length}
-use Rattle.std.specs.Prelude.{option_and_then, is_some, not, ◌&&◌}
+use Rattle.std.proofs.Common.{◌≡◌, ℕ, ◌+◌, Bool, true, false, cond, List, [], ◌∷◌, inl, inr, map, Option, Some, None, refl, sym, ap, ◌∙◌, subst, arith, length}
+use Rattle.std.specs.Prelude.{option_and_then, is_some}
 use Rattle.std.specs.Option.{option_map}
 use Rattle.std.proofs.lemmas.List.{length-map}
 use Rattle.syntax.specs.declared.expression.Name.{Name}
-use Rattle.syntax.specs.Expressions.{Ex as TreeEx, Exs as TreeExs}
-use Rattle.syntax.specs.Statements.{Simple, ValueSpec, Guard, Targets, no_targets, targets_assigned, targets_defined, Clause, forever, while_true, counting, ranging}
+use Rattle.syntax.specs.Expressions.{Ex as TreeEx}
+use Rattle.syntax.specs.Statements.{Simple, ValueSpec, Guard, Clause, forever, while_true, counting, ranging}
 use Rattle.syntax.specs.Statements as tree
 use Rattle.typed.specs.declared.program.Site.{Site}
 use Rattle.typed_syntax.specs.Syntax.{Ex, Left, St, Sts, Program, blank, new, to, declare, assign, update, bump, discard, block, if_stmt, for_stmt, range, break_stmt, continue_stmt, return_stmt, print, panic, exit, done}
-use Rattle.typed_syntax.specs.Types.{TypeTree, ints, bools}
-use Rattle.typed_syntax.specs.Form.{InScope, AllInScope, LeftsFit, new_sites, births, births_all, scope_behind, scope_after, TestFits, ExFits, StFits, StsFit, named_params as with_sites}
+use Rattle.typed_syntax.specs.Types.{TypeTree, bools}
+use Rattle.typed_syntax.specs.Form.{InScope, AllInScope, births, births_all, scope_behind, scope_after, TestFits, ExFits, StFits, StsFit}
 use Rattle.base.specs.declared.value_type.ValueType.{ValueType}
-use Rattle.base.specs.declared.value_type.ValueType.TheVariants.{Int}
-use Rattle.base.specs.Types.{same_type}
-use Rattle.base.proofs.Types.{same_is}
 use Rattle.typed.specs.Tables.{Table}
 use Rattle.typed.specs.Formed.{IsFormed}
 use Rattle.type_faults.proofs.Options.{and_then_some, map_some, none_some, same_some}
-use Rattle.operators.specs.Operands.{is_assignable, as_value}
-use Rattle.names.specs.Scope.{Scope, type_tree, type_trees, opened}
-use Rattle.names.proofs.Trees.{int_tree}
-use Rattle.expression_types.specs.declared.wants.Wanted.{Wanted}
-use Rattle.expression_types.specs.declared.wants.Wanted.TheVariants as wants
-use Rattle.expression_types.specs.Typing.{operand_in, taken, value_types, wanted_by, stated_type, declared_wanted, spec_wanted, gives, seen, condition, test}
-use Rattle.types_go.proofs.SettledHeads.{number_is}
-use Rattle.expression_types.proofs.InForm.{Agrees, AreAccepted, OptionalFits, AllFit, assigned_type, value_fits, operand_fits, maybe_fits, taken_fits, gives_fit, seen_fit, condition_fits, test_fits}
+use Rattle.names.specs.Scope.{Scope, type_trees, opened}
+use Rattle.given_values.specs.declared.wants.Wanted.{Wanted}
+use Rattle.given_values.specs.declared.wants.Wanted.TheVariants as wants
+use Rattle.given_values.specs.Given.{taken, value_types, wanted_by}
+use Rattle.expression_types.specs.Typing.{stated_type, declared_wanted, spec_wanted, seen, condition, test}
+use Rattle.given_values.proofs.ValuesFit.{Agrees, AreAccepted, OptionalFits, AllFit, taken_fits}
+use Rattle.expression_types.proofs.InForm.{seen_fit, condition_fits, test_fits}
 use Rattle.signatures.specs.declared.slots.Slot.{Slot}
 use Rattle.signatures.specs.declared.entries.Role.TheVariants.{Parameter}
-use Rattle.signatures.specs.Entries.{sites_of, entry_left, slot_with, slots_each, entries, behind_entries}
-use Rattle.signatures.proofs.Growth.{Extends, package_of, extends_twice, keeps_grows, grows_types, grows_entries}
+use Rattle.signatures.specs.Entries.{sites_of, entry_left, slot_with, slots_each}
+use Rattle.signatures.proofs.Growth.{Extends, package_of, keeps_grows, grows_types}
 use Rattle.signatures.proofs.Visible.{Visible, shown_site, shown_number, visible_opened, visible_kept}
 use Rattle.signatures.proofs.InFormEntries.{HasSites, Within, within_before, SlotsHave, each_have, with_have, sites_long, left_sites, left_scope, named_scope_of, lefts_of_params, next_of_params, entries_fit}
-use Rattle.simple_statements.specs.SimpleStatements.{is_bare, lefts, all_wanted, simple_statement, spec_slots_of, spec_slots, behind_spec, spec_entries, is_known, spec_declared, spec_assigned, spec_statement, taken_types}
+use Rattle.simple_statements.specs.SimpleStatements.{is_bare, simple_statement, spec_slots_of, spec_slots, behind_spec, spec_entries, is_known, spec_declared, spec_assigned, spec_statement, taken_types}
 use Rattle.simple_statements.proofs.SettledValues.{allowed_is}
 use Rattle.simple_statements.proofs.SettledSimple.{assignment_some}
 use Rattle.simple_statements.proofs.Growth.{grows_simple}
-use Rattle.simple_statements.proofs.InFormSimple.{Formed, StFormed, Still, accepted_long, known_all, lefts_fit, simple_still, simple_formed}
-use Rattle.types_go.specs.Statements.{Choice, Head, for_clause, range_clause, alone, new_in, declared_in, headed, chosen, for_of, key_of, as_int, number_type, all_accept, target_slots, header, init_statement, post_simple, post_statement, behind_post_simple, behind_post, guard_head, over, all_blank, target_lefts, clause_scope, clause_head}
+use Rattle.simple_statements.proofs.InFormSimple.{Formed, StFormed, Still, accepted_long, simple_still, simple_formed}
+use Rattle.types_go.specs.Ranges.{behind_range, range_in}
+use Rattle.types_go.specs.Statements.{Choice, Head, for_clause, range_clause, alone, new_in, declared_in, headed, chosen, for_of, header, init_statement, post_simple, post_statement, behind_post_simple, behind_post, guard_head, clause_scope, clause_head}
+use Rattle.types_go.proofs.InFormRanges.{RangeFits, range_scope, over_later, range_fits}
 use Rattle.types_go.proofs.StatementGrowth.{grows_header, keeps_post}
 
 -- ---- init statements
@@ -81,23 +79,7 @@ declared_in_scope scope (Some (print line ps)) = tt
 declared_in_scope scope (Some (panic at q)) = tt
 declared_in_scope scope (Some (exit at e)) = tt
 
--- ---- an int that a `range` goes over
-
-given_types : (t : ValueType) (ps : List Wanted) → all_accept (Some t) ps ≡ true → AreAccepted ps (map (λ (p : Wanted). t) ps)
-given_types t [] is = tt
-given_types t (wants.Own ∷ ps) is = given_types t ps is
-given_types t (wants.Unknown ∷ ps) is = given_types t ps is
-given_types t (wants.Typed s ∷ ps) is = by (λ is1. given_types t ps is1) (same_type s t) refl is
-  where
-    by : (all_accept (Some t) ps ≡ true → AreAccepted ps (map (λ (p : Wanted). t) ps)) → (b : Bool) → same_type s t ≡ b → (b && all_accept (Some t) ps) ≡ true → (s ≡ t) × AreAccepted ps (map (λ (p : Wanted). t) ps)
-    by later true same1 is1 = (same_is s t same1, later is1)
-    by later false same1 is1 = cc is1
-
--- a blank left side has no site
-alone_sites : (key : Left) → new_sites (key ∷ blank ∷ []) ≡ new_sites (key ∷ [])
-alone_sites blank = refl
-alone_sites (new site) = refl
-alone_sites (to q) = refl
+-- ---- names
 
 -- names that ask for a type get it
 accepted_same : (t : ValueType) (ns : List Name) (ts : List ValueType) → AreAccepted (map (λ (n : Name). wants.Typed t) ns) ts → map (λ (n : Name). t) ns ≡ ts
@@ -175,17 +157,15 @@ module _ (T : Table) (text : List ℕ) (p : Program) (all : List Site) (has : Ha
     abbrev pub HeadFits : (looped : Bool) → Scope → Head → Type 0
     HeadFits looped h (for_clause init test1 post) =
         InitFits looped s scope h init × TestFits p (init_scope scope init) test1 × (births_all post ≡ 0) × ((m n : ℕ) → StsFit p wanted1 named false (init_scope scope init) m n post)
-    HeadFits looped h (range_clause e key) =
-        Visible h (scope_behind scope (key ∷ [])) × ExFits p scope ints e × (length s.sites + new_sites (key ∷ []) ≡ length h.sites)
-        × ((n : ℕ) → length h.sites ≤ n → LeftsFit p scope (length s.sites) n (ints ∷ []) (key ∷ []))
+    HeadFits looped h (range_clause r) = RangeFits T text p all has wanted1 named looped s scope h r
 
     abbrev pub head_scope : Head → List ℕ
     head_scope (for_clause init test1 post) = init_scope scope init
-    head_scope (range_clause e key) = scope_behind scope (key ∷ [])
+    head_scope (range_clause r) = range_scope scope r
 
     pub head_visible : (looped : Bool) (h : Scope) (k : Head) → HeadFits looped h k → Visible h (head_scope k)
     head_visible looped h (for_clause init test1 post) fits = fits.0.visible
-    head_visible looped h (range_clause e key) fits = fits.0
+    head_visible looped h (range_clause r) fits = fits.visible
 
     pub loop_formed : (looped : Bool) (h after : Scope) (k : Head) (y : Sts) → HeadFits looped h k → StsFormed true h (head_scope k) after y → Formed1 looped s scope after (for_of k y)
     loop_formed looped h after (for_clause init test1 post) y fits a =
@@ -197,14 +177,13 @@ module _ (T : Table) (text : List ℕ) (p : Program) (all : List Site) (has : Ha
       where
         moved : births_all post ≡ 0 → length h.sites ≡ length h.sites + births_all post
         moved is = omega (arith, is)
-    loop_formed looped h after (range_clause e key) y fits a = record {
-      count = omega (arith, a.count, fits.2, alone_sites key);
-      fit = λ n le. (fits.1, fits.3 n (omega (arith, le, a.count)), subst (λ j. StsFit p wanted1 named true (scope_behind scope (key ∷ [])) j n y) (sym fits.2) (a.fit n le));
-    }
+    loop_formed looped h after (range_clause r) y fits a =
+        let later = over_later r.over (births_all y) in
+        record { count = omega (arith, a.count, fits.count, later); fit = λ n le. fits.fit n (omega (arith, le, a.count)) y (a.fit n le) }
 
     pub loop_keeps : (looped : Bool) (h : Scope) (k : Head) (y : Sts) → HeadFits looped h k → scope_after scope (for_of k y) ≡ scope
     loop_keeps looped h (for_clause init test1 post) y fits = fits.0.keeps (for_stmt (declared_in init) test1 post y) (λ sc. refl)
-    loop_keeps looped h (range_clause e key) y fits = refl
+    loop_keeps looped h (range_clause r) y fits = refl
 
     optional_test : (sc : List ℕ) (o : Option Ex) → OptionalFits p sc o → TestFits p sc o
     optional_test sc None fits = tt
@@ -249,96 +228,6 @@ module _ (T : Table) (text : List ℕ) (p : Program) (all : List Site) (has : Ha
           keeps = k.keeps;
         }
 
-    -- what gets the numbers
-    record KeyFits (h : Scope) (key : Left) : Type 0 where
-      shows : Visible h (scope_behind scope (key ∷ []))
-      count : length s.sites + new_sites (key ∷ []) ≡ length h.sites
-      fit : (n : ℕ) → length h.sites ≤ n → LeftsFit p scope (length s.sites) n (ints ∷ []) (key ∷ [])
-
-    nothing_fits : KeyFits (opened s) blank
-    nothing_fits = record { shows = visible_opened s scope visible; count = omega arith; fit = λ n le. tt }
-
-    -- one left side, or one before a blank one
-    key_sites : (l : List Left) (key : Left) → key_of l ≡ Some key → new_sites l ≡ new_sites (key ∷ [])
-    key_sites [] key is = ap (λ (k : Left). new_sites (k ∷ [])) (same_some is)
-    key_sites (x ∷ []) key is = ap (λ (k : Left). new_sites (k ∷ [])) (same_some is)
-    key_sites (x ∷ blank ∷ []) key is = by x ∙ ap (λ (k : Left). new_sites (k ∷ [])) (same_some is)
-      where
-        by : (y : Left) → new_sites (y ∷ blank ∷ []) ≡ new_sites (y ∷ [])
-        by blank = refl
-        by (new site) = refl
-        by (to q) = refl
-    key_sites other key is = absurd (none_some is)
-
-    key_scope : (wide : List ℕ) (l : List Left) (key : Left) → key_of l ≡ Some key → scope_behind wide l ≡ scope_behind wide (key ∷ [])
-    key_scope wide [] key is = ap (λ (k : Left). scope_behind wide (k ∷ [])) (same_some is)
-    key_scope wide (x ∷ []) key is = ap (λ (k : Left). scope_behind wide (k ∷ [])) (same_some is)
-    key_scope wide (x ∷ blank ∷ []) key is = by x ∙ ap (λ (k : Left). scope_behind wide (k ∷ [])) (same_some is)
-      where
-        by : (y : Left) → scope_behind wide (y ∷ blank ∷ []) ≡ scope_behind wide (y ∷ [])
-        by blank = refl
-        by (new site) = refl
-        by (to q) = refl
-    key_scope wide other key is = absurd (none_some is)
-
-    first_fits : (m n : ℕ) (ts : List TypeTree) (x : Left) (ls : List Left) → LeftsFit p scope m n (ints ∷ ts) (x ∷ ls) → LeftsFit p scope m n (ints ∷ []) (x ∷ [])
-    first_fits m n ts blank ls fit = tt
-    first_fits m n ts (new site) ls fit = (fit.0, fit.1, fit.2, tt)
-    first_fits m n ts (to q) ls fit = (fit.0, tt)
-
-    as_ints : (m n : ℕ) (ts : List TypeTree) (ls : List Left) → LeftsFit p scope m n (type_tree T Int ∷ ts) ls → LeftsFit p scope m n (ints ∷ ts) ls
-    as_ints m n ts ls fit = subst (λ (u : TypeTree). LeftsFit p scope m n (u ∷ ts) ls) (int_tree T formed) fit
-
-    key_fits : {A : Type 0} (m n : ℕ) (xs : List A) (l : List Left) (key : Left) → key_of l ≡ Some key → LeftsFit p scope m n (type_trees T (map (λ (x : A). Int) xs)) l → LeftsFit p scope m n (ints ∷ []) (key ∷ [])
-    key_fits m n xs [] key is fit = subst (λ (k : Left). LeftsFit p scope m n (ints ∷ []) (k ∷ [])) (same_some is) tt
-    key_fits m n [] (x ∷ l) key is fit = absurd fit
-    key_fits m n (a ∷ xs) (x ∷ []) key is fit = subst (λ (k : Left). LeftsFit p scope m n (ints ∷ []) (k ∷ [])) (same_some is) (first_fits m n (type_trees T (map (λ (y : _). Int) xs)) x [] (as_ints m n (type_trees T (map (λ (y : _). Int) xs)) (x ∷ []) fit))
-    key_fits m n (a ∷ xs) (x ∷ blank ∷ []) key is fit = subst (λ (k : Left). LeftsFit p scope m n (ints ∷ []) (k ∷ [])) (same_some is) (first_fits m n (type_trees T (map (λ (y : _). Int) xs)) x (blank ∷ []) (as_ints m n (type_trees T (map (λ (y : _). Int) xs)) (x ∷ blank ∷ []) fit))
-    key_fits m n (a ∷ xs) other key is fit = absurd (none_some is)
-
-    assigned_fits : (ls : TreeExs) (l : List Left) (key : Left) → Extends s.sites all → lefts text (opened s) ls ≡ Some l → all_accept (Some Int) (all_wanted text (opened s) ls) ≡ true → key_of l ≡ Some key → KeyFits (opened s) key
-    assigned_fits ls l key ext found accept is =
-        let ps = all_wanted text (opened s) ls in
-        let old = lefts_fit T p text (opened s) scope (known_all T text p all has (opened s) scope (visible_opened s scope visible) types_are (agreed (opened s) refl ext)) ls (map (λ (q : Wanted). Int) ps) l (given_types Int ps accept) found in
-        let sites_are : new_sites (key ∷ []) ≡ 0 = sym (key_sites l key is) ∙ old.sites in
-        record {
-          shows = subst (λ (w : List ℕ). Visible (opened s) w) (sym (old.behind scope) ∙ key_scope scope l key is) (visible_opened s scope visible);
-          count = omega (arith, sites_are);
-          fit = λ n le. key_fits (length s.sites) n ps l key is (old.fit (length s.sites) n);
-        }
-
-    defined_fits : (ns : List Name) (es : List (Option ℕ)) (key : Left) → Extends (behind_entries text (opened s) (map (slot_with (Some Int)) ns)).sites all → entries text Parameter (opened s) (map (slot_with (Some Int)) ns) ≡ Some es
-        → key_of (map entry_left es) ≡ Some key → KeyFits (behind_entries text (opened s) (map (slot_with (Some Int)) ns)) key
-    defined_fits ns es key ext found is =
-        let h = behind_entries text (opened s) (map (slot_with (Some Int)) ns) in
-        let f = entries_fit T text p all has Parameter (opened s) scope (map (slot_with (Some Int)) ns) (map (λ (n : Name). Int) ns) es types_are (visible_opened s scope visible) (with_have Int ns) found ext in
-        let sites_are : new_sites (key ∷ []) ≡ with_sites es = sym (key_sites (map entry_left es) key is) ∙ left_sites es in
-        record {
-          shows = subst (λ (w : List ℕ). Visible h w) (sym (left_scope scope es) ∙ key_scope scope (map entry_left es) key is) f.visible;
-          count = omega (arith, sites_are, f.count);
-          fit = λ n le. key_fits (length s.sites) n ns (map entry_left es) key is (lefts_of_params p scope (length s.sites) n (type_trees T (map (λ (m : Name). Int) ns)) es f.fit (omega (arith, le, f.count)));
-        }
-
-    keys_fit : (t : Targets) (l : List Left) (key : Left) → Extends s.sites all → Extends (behind_entries text (opened s) (target_slots (Some Int) t)).sites all → target_lefts text (opened s) (Some Int) t ≡ Some l → key_of l ≡ Some key
-        → KeyFits (behind_entries text (opened s) (target_slots (Some Int) t)) key
-    keys_fit no_targets l key ext0 ext found is = subst (λ (x : Left). KeyFits (opened s) x) (same_some (ap (λ (y : List Left). key_of y) (same_some found) ∙ is)) nothing_fits
-    keys_fit (targets_assigned ls at) l key ext0 ext found is =
-        let a = allowed_is (all_accept (Some Int) (all_wanted text (opened s) ls)) (lefts text (opened s) ls) l found in
-        assigned_fits ls l key ext0 a.1 a.0 is
-    keys_fit (targets_defined ns at) l key ext0 ext found is =
-        let a = allowed_is (not (all_blank text ns)) (option_map (map entry_left) (entries text Parameter (opened s) (map (slot_with (Some Int)) ns))) l found in
-        let q = map_some (map entry_left) (entries text Parameter (opened s) (map (slot_with (Some Int)) ns)) l a.1 in
-        defined_fits ns q.0 key ext q.1 (ap key_of q.2 ∙ is)
-
-    over_fits : (e : TreeEx) (x : Ex) → Extends s.sites all → over text s e ≡ Some x → ExFits p scope ints x
-    over_fits e x ext is =
-        let q = and_then_some as_int (operand_in (gives text s e)) x is in
-        let a = allowed_is (is_assignable Int q.0) (as_value q.0) x q.2 in
-        let agrees = agreed s refl ext in
-        let fits = operand_fits s.types p scope (gives text s e) q.0 (maybe_fits s.types p scope (gives text s e) (λ g g_is. gives_fit p scope text s (shown_site s scope visible) (shown_number s scope visible) visible.held agrees e g g_is)) q.1 in
-        subst (λ (u : TypeTree). ExFits p scope u x) (int_tree s.types agrees.formed)
-        (value_fits s.types p scope agrees.formed q.0 Int x (assigned_type Int q.0 a.0) fits a.1)
-
     pub clause_fits : (looped : Bool) (c : Clause) (k : Head) → clause_head text s c ≡ Some k → Within p all (clause_scope text s c) → HeadFits looped (clause_scope text s c) k
     clause_fits looped forever k is ext = subst (λ (x : Head). HeadFits looped (opened s) x) (same_some is) (no_init looped s scope visible, tt, refl, λ m n. tt)
     clause_fits looped (while_true e) k is ext =
@@ -357,16 +246,8 @@ module _ (T : Table) (text : List ℕ) (p : Program) (all : List Site) (has : Ha
         let last1 = post_fits h (init_scope scope r.0) post o.0 i.visible (grows_types (opened s) h (grows_header text s init) ∙ types_are) agrees ext o.1 in
         subst (λ (x : Head). HeadFits looped (behind_post text h post) x) o.2 (init_behind looped h post r.0 i, optional_test (init_scope scope r.0) q.0 (test_fits p (init_scope scope r.0) text h (shown_site h (init_scope scope r.0) i.visible) (shown_number h (init_scope scope r.0) i.visible) i.visible.held agrees test1 q.0 q.1), last1.0, last1.1)
     clause_fits looped (ranging t at e) k is ext =
-        let n = number_type (operand_in (gives text s e)) in
-        let r = and_then_some (λ x. option_map (range_clause x) (option_and_then key_of (target_lefts text (opened s) n t))) (over text s e) k is in
-        let q = map_some (range_clause r.0) (option_and_then key_of (target_lefts text (opened s) n t)) k r.2 in
-        let l = and_then_some key_of (target_lefts text (opened s) n t) q.0 q.1 in
-        let int1 : n ≡ Some Int = number_is (operand_in (gives text s e)) r.0 r.1 in
-        let ext1 : Extends (behind_entries text (opened s) (target_slots (Some Int) t)).sites all = subst (λ (o : Option ValueType). Extends (behind_entries text (opened s) (target_slots o t)).sites all) int1 ext.0 in
-        let ext0 = extends_twice s.sites (behind_entries text (opened s) (target_slots (Some Int) t)).sites all (grows_entries text (opened s) (target_slots (Some Int) t)).sites ext1 in
-        let f = keys_fit t l.0 q.0 ext0 ext1 (ap (λ (o : Option ValueType). target_lefts text (opened s) o t) (sym int1) ∙ l.1) l.2 in
-        subst (λ (x : Head). HeadFits looped (behind_entries text (opened s) (target_slots n t)) x) q.2
-        (subst (λ (o : Option ValueType). HeadFits looped (behind_entries text (opened s) (target_slots o t)) (range_clause r.0 q.0)) (sym int1) (f.shows, over_fits e r.0 ext0 r.1, f.count, f.fit))
+        let q = map_some range_clause (range_in text s t e) k is in
+        subst (λ (x : Head). HeadFits looped (behind_range text s t at e) x) q.2 (range_fits T text p all has wanted1 named s scope visible types_are formed agreed looped t at e q.0 q.1 ext.0)
 
     -- ---- variables
 

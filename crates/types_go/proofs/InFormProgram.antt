@@ -21,8 +21,8 @@ use Rattle.type_faults.proofs.Options.{and_then_some, map_some, none_some, same_
 use Rattle.names.specs.Universe.{is_blank, is_main}
 use Rattle.names.specs.Scope.{Scope, Signature, type_tree, type_trees, declaration, is_here, opened}
 use Rattle.names.proofs.Trees.{solid}
-use Rattle.expression_types.specs.declared.wants.Wanted.TheVariants as wants
-use Rattle.expression_types.specs.Typing.{wanted_by, asked}
+use Rattle.given_values.specs.declared.wants.Wanted.TheVariants as wants
+use Rattle.given_values.specs.Given.{wanted_by, asked}
 use Rattle.package_values.specs.Values.{items_in, settled}
 use Rattle.signatures.specs.declared.slots.Slot.{Slot}
 use Rattle.signatures.specs.declared.entries.Role.{Role}

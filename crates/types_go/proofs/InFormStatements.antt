@@ -15,8 +15,9 @@ use Rattle.type_faults.specs.Given.{allowed}
 use Rattle.type_faults.proofs.Options.{and_then_some, map_some, same_some}
 use Rattle.names.specs.declared.scope.Known.{Known}
 use Rattle.names.specs.Scope.{Scope, Signature, type_tree, type_trees, opened, closed}
-use Rattle.expression_types.specs.Typing.{known_type, seen}
-use Rattle.expression_types.proofs.InForm.{Agrees}
+use Rattle.given_values.specs.Given.{known_type}
+use Rattle.expression_types.specs.Typing.{seen}
+use Rattle.given_values.proofs.ValuesFit.{Agrees}
 use Rattle.signatures.proofs.Growth.{Extends, Package, package_of, extends_twice, Keeps, keeps_grows, grows_entries}
 use Rattle.signatures.proofs.Visible.{Visible, visible_opened, visible_kept, got_longer}
 use Rattle.signatures.proofs.InFormEntries.{HasSites, Within, within_before, get_mapped}

@@ -21,12 +21,13 @@ mod Visible
 mod Walk
 pub mod StatementGrowth
 mod InFormHeads
+mod InFormRanges
 pub mod InFormStatements
 pub mod Inside
-mod Keys
 mod StatementLines
 mod Sequences
 mod SettledHeads
+mod SettledRanges
 pub mod SettledStatements
 mod StatementSites
 pub mod Terminating

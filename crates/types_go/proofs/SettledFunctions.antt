@@ -33,8 +33,8 @@ use Rattle.types_go.specs.Statements.{behind_all}
 use Rattle.types_go.specs.Functions.{Member, of_function, of_variable, functions_of, type_or_int, behind_variable, behind_params, body_scope, behind_body, behind_function, returns_of, may_end, func, param_entries, result_entries, body_of, parts, function_with, function, functions}
 use Rattle.types_go.specs.StatementFaults.{FailsInStatements}
 use Rattle.types_go.specs.FunctionFaults.{FailsInParts, FailsWith, FailsInFunction, FailsInFunctions}
-use Rattle.expression_types.specs.Typing.{wanted_by}
-use Rattle.expression_types.proofs.Places.{Asks, AllAsk}
+use Rattle.given_values.specs.Given.{wanted_by}
+use Rattle.given_values.proofs.Places.{Asks, AllAsk}
 use Rattle.types_go.proofs.SettledStatements.{settled_all, statements_decided}
 
 name_tested : (i : ℕ) (is_blank : Bool) (d : Option Declared) (at : Pos) → Tested (may_be_named i is_blank d) (IsFault (function_name_fault i is_blank d at))

@@ -1,44 +1,30 @@
 -- Where every variable has a type and every function a signature, a header has a typed form, or a rule fails in it, and never both.
-use Rattle.std.proofs.Common.{◌≡◌, ℕ, suc, ◌≤◌, Bool, true, false, cond, List, [], ◌∷◌, ◌⊎◌, inl, inr, length, map, Option, Some, None, refl, sym, ap, ◌∙◌, subst, arith}
-use Rattle.std.specs.Prelude.{option_and_then, not, nat_le}
+use Rattle.std.proofs.Common.{◌≡◌, ℕ, List, ◌⊎◌, inl, inr, Option, Some, None, refl}
+use Rattle.std.specs.Prelude.{option_and_then}
 use Rattle.std.specs.Option.{option_map}
-use Rattle.std.proofs.lemmas.Bool.{leb-true}
 use Rattle.base.specs.declared.pos.Pos.{Pos}
-use Rattle.syntax.specs.declared.expression.Name.{Name}
-use Rattle.syntax.specs.FirstBytes.{first_pos}
-use Rattle.syntax.specs.Expressions.{Ex as TreeEx, Exs as TreeExs, some, spelled}
-use Rattle.syntax.specs.Expressions as expressions
-use Rattle.syntax.specs.Statements.{Simple, Guard, Targets, no_targets, targets_assigned, targets_defined, Clause, forever, while_true, counting, ranging}
+use Rattle.syntax.specs.Statements.{Simple, Guard, Clause, forever, while_true, counting, ranging}
 use Rattle.syntax.specs.Statements as tree
-use Rattle.typed_syntax.specs.Syntax.{Ex, Left, blank, new, to, St, Sts, done}
+use Rattle.typed_syntax.specs.Syntax.{Ex, St, Sts, done}
 use Rattle.type_faults.specs.declared.fault.Fault.{Fault}
-use Rattle.type_faults.specs.declared.fault.FaultKind.TheVariants.{NothingNew, Mismatch, WrongCount, Unfit, OutOfProfile}
-use Rattle.base.specs.declared.value_type.ValueType.{ValueType}
-use Rattle.base.specs.declared.value_type.ValueType.TheVariants.{Int}
-use Rattle.type_faults.specs.Given.{allowed}
-use Rattle.type_faults.specs.Faults.{fault, IsFault}
-use Rattle.type_faults.proofs.Decided.{Decided, Tested, further, tested, turned, mapped, after, both_tested}
-use Rattle.type_faults.proofs.Options.{and_then_some, map_some, none_some, same_some}
-use Rattle.operators.specs.Operands.{Operand, is_assignable, as_value}
-use Rattle.names.specs.Universe.{is_blank}
-use Rattle.names.specs.Scope.{Scope, is_here, opened}
+use Rattle.type_faults.specs.declared.fault.FaultKind.TheVariants.{OutOfProfile}
+use Rattle.type_faults.specs.Faults.{fault}
+use Rattle.type_faults.proofs.Decided.{Decided, further, mapped, after}
+use Rattle.type_faults.proofs.Options.{and_then_some, map_some}
+use Rattle.names.specs.Scope.{Scope, opened}
 use Rattle.names.proofs.Settled.{IsSettled}
-use Rattle.expression_types.specs.declared.wants.Wanted.{Wanted}
-use Rattle.expression_types.specs.Typing.{accepts, operand_in, gives, condition, test}
-use Rattle.expression_types.specs.Faults.{range_fault, Fails, FailsAsOperand, FailsInCondition, FailsInTest}
-use Rattle.expression_types.proofs.DecidedValues.{operand_decided, as_value_decided}
-use Rattle.expression_types.proofs.Settled.{gives_decided, condition_decided, test_decided}
-use Rattle.signatures.specs.declared.entries.Role.TheVariants.{Parameter}
-use Rattle.signatures.specs.Entries.{entry_of, entry_left, slot_with, entry_in, entries, behind_entry, behind_entries}
-use Rattle.signatures.specs.EntryFaults.{EntriesFail}
-use Rattle.signatures.specs.Failing.{fault_where}
-use Rattle.signatures.proofs.SettledEntries.{where_tested, where_not, settled_opened, settled_entries, AllTyped, with_typed, entries_decided}
-use Rattle.simple_statements.specs.SimpleStatements.{wanted, lefts, all_wanted, simple_statement}
-use Rattle.simple_statements.specs.SimpleFaults.{names_place, LeftsFail}
-use Rattle.simple_statements.proofs.SettledValues.{allowed_is}
-use Rattle.simple_statements.proofs.SettledSimple.{lefts_decided, simple_decided, settled_simple}
-use Rattle.types_go.specs.Statements.{Choice, Head, for_clause, range_clause, alone, choice_head, loop_head, key_of, range_head, as_int, number_type, all_accept, target_slots, header, init_statement, post_simple, post_statement, behind_post_simple, behind_post, guard_head, over, all_blank, target_lefts, clause_scope, clause_head}
-use Rattle.types_go.specs.StatementFaults.{over_fault, given_fault, keys_fault, key_count, name_count, FailsInInit, PostFails, FailsInPost, FailsInOver, GivenFail, TargetsFail, target_count, FailsInRange, FailsInClause, FailsInGuard}
+use Rattle.expression_types.specs.Typing.{condition, test}
+use Rattle.expression_types.specs.Faults.{FailsInCondition, FailsInTest}
+use Rattle.expression_types.proofs.Settled.{condition_decided, test_decided}
+use Rattle.signatures.proofs.SettledEntries.{settled_opened}
+use Rattle.simple_statements.specs.SimpleStatements.{simple_statement}
+use Rattle.simple_statements.specs.SimpleFaults.{names_place}
+use Rattle.simple_statements.proofs.SettledSimple.{simple_decided, settled_simple}
+use Rattle.types_go.specs.Ranges.{range_in}
+use Rattle.types_go.specs.RangeFaults.{FailsInRange}
+use Rattle.types_go.specs.Statements.{Choice, Head, for_clause, range_clause, alone, choice_head, loop_head, header, init_statement, post_simple, post_statement, behind_post_simple, behind_post, guard_head, clause_scope, clause_head}
+use Rattle.types_go.specs.StatementFaults.{FailsInInit, PostFails, FailsInPost, FailsInClause, FailsInGuard}
+use Rattle.types_go.proofs.SettledRanges.{range_decided, settled_range}
 
 -- ---- of their parts
 
@@ -54,49 +40,6 @@ loop_head_decided (Some h) (Some x) o P Q R p q r = further (λ f. P f ⊎ Q f) 
 while_decided : (c : Option Ex) (P : Fault → Type 0) → Decided c P → Decided (loop_head (Some None) (option_map Some c) (Some done)) P
 while_decided None P p = p
 while_decided (Some x) P p = p
-
-more_keys : (at : Pos) (n : ℕ) → 2 ≤ n → (f : Fault) × IsFault (fault_where (not (nat_le n 1)) (fault WrongCount at)) f
-more_keys at n two = by (nat_le n 1) refl
-  where
-    by : (b : Bool) → nat_le n 1 ≡ b → (f : Fault) × IsFault (fault_where (not b) (fault WrongCount at)) f
-    by true is = let le = leb-true n 1 is in absurd (omega (arith, le, two))
-    by false is = (fault WrongCount at, refl)
-
-key_decided : (at : Pos) (l : List Left) → Decided (key_of l) (IsFault (keys_fault at (Some Int) (Some (key_count l))))
-key_decided at [] = λ f h. h
-key_decided at (l ∷ []) = λ f h. h
-key_decided at (l ∷ blank ∷ []) = λ f h. h
-key_decided at (l ∷ k ∷ ls) = more_keys at (length (l ∷ k ∷ ls)) (omega arith)
-
-range_head_decided : (e : Option Ex) (u : Option ValueType) (ls : Option (List Left)) (at : Pos) (n : Option ℕ) (P Q : Fault → Type 0) → Decided e P → ((x : Ex) → e ≡ Some x → u ≡ Some Int) → ((x : Ex) → e ≡ Some x → Decided ls Q)
-    → ((l : List Left) → ls ≡ Some l → n ≡ Some (key_count l)) → Decided (range_head e ls) (λ f. (P f ⊎ Q f) ⊎ IsFault (keys_fault at u n) f)
-range_head_decided None u ls at n P Q p typed q long = (p.0, inl (inl p.1))
-range_head_decided (Some x) u None at n P Q p typed q long = let f = q x refl in (f.0, inl (inr f.1))
-range_head_decided (Some x) u (Some l) at n P Q p typed q long =
-    subst (λ (v : Option ValueType). Decided (option_map (range_clause x) (key_of l)) (λ f. (P f ⊎ Q f) ⊎ IsFault (keys_fault at v n) f)) (sym (typed x refl))
-    (subst (λ (m : Option ℕ). Decided (option_map (range_clause x) (key_of l)) (λ f. (P f ⊎ Q f) ⊎ IsFault (keys_fault at (Some Int) m) f)) (sym (long l refl))
-    (further (λ f. P f ⊎ Q f) (IsFault (keys_fault at (Some Int) (Some (key_count l)))) (option_map (range_clause x) (key_of l)) (λ f k. elim k [ inl u ↦ p f u | inr u ↦ q x refl f u ])
-    (mapped (range_clause x) (key_of l) (IsFault (keys_fault at (Some Int) (Some (key_count l)))) (key_decided at l))))
-
-int_decided : (at place : Pos) (o : Option Operand) (P : Fault → Type 0) → Decided o P → Decided (option_and_then as_int o) (λ f. P f ⊎ IsFault (over_fault at place o) f)
-int_decided at place None P d = (d.0, inl d.1)
-int_decided at place (Some x) P d = further P (IsFault (over_fault at place (Some x))) (as_int x) d (by (is_assignable Int x))
-  where
-    by : (b : Bool) → Decided (allowed b (as_value x)) (IsFault (cond b (range_fault place (Some x)) (Some (fault Unfit at))))
-    by true = as_value_decided place x
-    by false = (fault Unfit at, refl)
-
-given_tested : (t : ValueType) (p : Wanted) (at : Pos) → Tested (accepts p t) (IsFault (given_fault (Some t) p at))
-given_tested t p at = where_not (accepts p t) (fault Mismatch at)
-
--- what a header goes over gives numbers that are ints
-pub number_is : (o : Option Operand) (x : Ex) → option_and_then as_int o ≡ Some x → number_type o ≡ Some Int
-number_is None x is = absurd (none_some is)
-number_is (Some y) x is = by (is_assignable Int y) is
-  where
-    by : (b : Bool) → allowed b (as_value y) ≡ Some x → cond b (Some Int) None ≡ Some Int
-    by true is1 = refl
-    by false is1 = absurd (none_some is1)
 
 module _ (text : List ℕ) where
   -- ---- headers
@@ -132,87 +75,6 @@ module _ (text : List ℕ) where
       let r = and_then_some (λ h. option_map (λ x. record { init = h; condition = x }) (condition text (header text s g.init) g.condition)) (init_statement text s g.init) c is in
       settled_header s g.init r.0 settled r.1
 
-  over_decided : (s : Scope) (at : Pos) (e : TreeEx) → IsSettled s → Decided (over text s e) (FailsInOver text s at e)
-  over_decided s at e settled =
-      int_decided at (first_pos e) (operand_in (gives text s e)) (FailsAsOperand text s e) (operand_decided (gives text s e) (Fails text s e) (gives_decided text s settled e))
-
-  given_all_tested : (s : Scope) (t : ValueType) (ls : TreeExs) → Tested (all_accept (Some t) (all_wanted text s ls)) (GivenFail (Some t) (all_wanted text s ls) ls)
-  given_all_tested s t expressions.none = λ f h. h
-  given_all_tested s t (some e es) =
-      both_tested (IsFault (given_fault (Some t) (wanted text s e) (first_pos e))) (GivenFail (Some t) (all_wanted text s es) es) (accepts (wanted text s e) t) (all_accept (Some t) (all_wanted text s es))
-      (given_tested t (wanted text s e) (first_pos e)) (given_all_tested s t es)
-
-  targets_decided : (s : Scope) (t : ValueType) (targets : Targets) → IsSettled s → Decided (target_lefts text s (Some t) targets) (TargetsFail text s (Some t) targets)
-  targets_decided s t no_targets settled = λ f h. h
-  targets_decided s t (targets_assigned ls at) settled =
-      turned (GivenFail (Some t) (all_wanted text s ls) ls) (LeftsFail text s ls) (target_lefts text s (Some t) (targets_assigned ls at))
-      (tested (GivenFail (Some t) (all_wanted text s ls) ls) (LeftsFail text s ls) (all_accept (Some t) (all_wanted text s ls)) (lefts text s ls) (given_all_tested s t ls) (lefts_decided text s settled ls))
-  targets_decided s t (targets_defined ns at) settled =
-      turned (IsFault (fault_where (all_blank text ns) (fault NothingNew at))) (EntriesFail text Parameter s (map (slot_with (Some t)) ns)) (target_lefts text s (Some t) (targets_defined ns at))
-      (tested (IsFault (fault_where (all_blank text ns) (fault NothingNew at))) (EntriesFail text Parameter s (map (slot_with (Some t)) ns)) (not (all_blank text ns)) (option_map (map entry_left) (entries text Parameter s (map (slot_with (Some t)) ns)))
-      (where_tested (all_blank text ns) (fault NothingNew at))
-      (mapped (map entry_left) (entries text Parameter s (map (slot_with (Some t)) ns)) (EntriesFail text Parameter s (map (slot_with (Some t)) ns)) (entries_decided text Parameter s (map (slot_with (Some t)) ns))))
-
-  -- a name by itself, and those after it
-  entries_first : (s : Scope) (t : Option ValueType) (n : Name) (ns : List Name) (es : List (Option ℕ)) → entries text Parameter s (map (slot_with t) (n ∷ ns)) ≡ Some es
-      → (e : Option ℕ) × (xs : List (Option ℕ)) × (entry_in text Parameter s (Some n) ≡ Some e) × (entries text Parameter (behind_entry text s (slot_with t n)) (map (slot_with t) ns) ≡ Some xs) × (e ∷ xs ≡ es)
-  entries_first s t n ns es is =
-      let r = and_then_some (λ e. option_map (λ xs. e ∷ xs) (entries text Parameter (behind_entry text s (slot_with t n)) (map (slot_with t) ns))) (entry_in text Parameter s (Some n)) es is in
-      let q = map_some (λ xs. r.0 ∷ xs) (entries text Parameter (behind_entry text s (slot_with t n)) (map (slot_with t) ns)) es r.2 in
-      (r.0, q.0, r.1, q.1, q.2)
-
-  entries_long : (s : Scope) (t : Option ValueType) (ns : List Name) (es : List (Option ℕ)) → entries text Parameter s (map (slot_with t) ns) ≡ Some es → length ns ≡ length (map entry_left es)
-  entries_long s t [] es is = ap (λ l. length (map entry_left l)) (same_some is)
-  entries_long s t (n ∷ ns) es is =
-      let r = entries_first s t n ns es is in
-      ap suc (entries_long (behind_entry text s (slot_with t n)) t ns r.1 r.3) ∙ ap (λ l. length (map entry_left l)) r.4
-
-  -- as many left sides as are range_clause
-  last_counted : (b h : Bool) (site : ℕ) (l : Left) (e : Option ℕ) → entry_of Parameter b h site ≡ Some e → cond b 1 2 ≡ key_count (l ∷ entry_left e ∷ [])
-  last_counted true h site l e is = ap (λ x. key_count (l ∷ entry_left x ∷ [])) (same_some is)
-  last_counted false true site l e is = absurd (none_some is)
-  last_counted false false site l e is = ap (λ x. key_count (l ∷ entry_left x ∷ [])) (same_some is)
-
-  long_counted : (l k : Left) (n : ℕ) (ls : List Left) → suc n ≡ length ls → suc (suc (suc n)) ≡ key_count (l ∷ k ∷ ls)
-  long_counted l k n [] long = absurd (omega (arith, long))
-  long_counted l blank n (x ∷ ls) long = ap (λ j. suc (suc j)) long
-  long_counted l (new site) n (x ∷ ls) long = ap (λ j. suc (suc j)) long
-  long_counted l (to q) n (x ∷ ls) long = ap (λ j. suc (suc j)) long
-
-  names_counted : (s : Scope) (t : Option ValueType) (ns : List Name) (es : List (Option ℕ)) → entries text Parameter s (map (slot_with t) ns) ≡ Some es → name_count text ns ≡ key_count (map entry_left es)
-  names_counted s t [] es is = ap (λ l. key_count (map entry_left l)) (same_some is)
-  names_counted s t (n ∷ []) es is =
-      let r = entries_first s t n [] es is in
-      ap (λ l. key_count (entry_left r.0 ∷ map entry_left l)) (same_some r.3) ∙ ap (λ l. key_count (map entry_left l)) r.4
-  names_counted s t (n ∷ m ∷ []) es is =
-      let r = entries_first s t n (m ∷ []) es is in
-      let s1 = behind_entry text s (slot_with t n) in
-      let q = entries_first s1 t m [] r.1 r.3 in
-      last_counted (is_blank (spelled text m)) (is_here s1 (spelled text m)) (length s1.sites) (entry_left r.0) q.0 q.2
-      ∙ ap (λ l. key_count (entry_left r.0 ∷ entry_left q.0 ∷ map entry_left l)) (same_some q.3) ∙ ap (λ l. key_count (entry_left r.0 ∷ map entry_left l)) q.4 ∙ ap (λ l. key_count (map entry_left l)) r.4
-  names_counted s t (n ∷ m ∷ o ∷ ns) es is =
-      let r = entries_first s t n (m ∷ o ∷ ns) es is in
-      let s1 = behind_entry text s (slot_with t n) in
-      let q = entries_first s1 t m (o ∷ ns) r.1 r.3 in
-      long_counted (entry_left r.0) (entry_left q.0) (length ns) (map entry_left q.1) (entries_long (behind_entry text s1 (slot_with t m)) t (o ∷ ns) q.1 q.3)
-      ∙ ap (λ l. key_count (entry_left r.0 ∷ map entry_left l)) q.4 ∙ ap (λ l. key_count (map entry_left l)) r.4
-
-  targets_counted : (s : Scope) (t : Option ValueType) (targets : Targets) (l : List Left) → target_lefts text s t targets ≡ Some l → target_count text s targets ≡ Some (key_count l)
-  targets_counted s t no_targets l is = ap (option_map key_count) is
-  targets_counted s t (targets_assigned ls at) l is = ap (option_map key_count) (allowed_is (all_accept t (all_wanted text s ls)) (lefts text s ls) l is).1
-  targets_counted s t (targets_defined ns at) l is =
-      let a = allowed_is (not (all_blank text ns)) (option_map (map entry_left) (entries text Parameter s (map (slot_with t) ns))) l is in
-      let q = map_some (map entry_left) (entries text Parameter s (map (slot_with t) ns)) l a.1 in
-      ap Some (names_counted s t ns q.0 q.1 ∙ ap key_count q.2)
-
-  range_decided : (s : Scope) (at : Pos) (t : Targets) (e : TreeEx) → IsSettled s → Decided (range_head (over text s e) (target_lefts text (opened s) (number_type (operand_in (gives text s e))) t)) (FailsInRange text s at t e)
-  range_decided s at t e settled =
-      let n = number_type (operand_in (gives text s e)) in
-      range_head_decided (over text s e) n (target_lefts text (opened s) n t) at (target_count text (opened s) t) (FailsInOver text s at e) (TargetsFail text (opened s) n t) (over_decided s at e settled)
-      (λ x is. number_is (operand_in (gives text s e)) x is)
-      (λ x is. subst (λ (o : Option ValueType). Decided (target_lefts text (opened s) o t) (TargetsFail text (opened s) o t)) (sym (number_is (operand_in (gives text s e)) x is)) (targets_decided (opened s) Int t (settled_opened s settled)))
-      (λ l is. targets_counted (opened s) n t l is)
-
   pub clause_decided : (s : Scope) (at : Pos) (c : Clause) → IsSettled s → Decided (clause_head text s c) (FailsInClause text s at c)
   clause_decided s at forever settled = λ f h. h
   clause_decided s at (while_true e) settled = while_decided (condition text (opened s) e) (FailsInCondition text (opened s) at e) (condition_decided text (opened s) (settled_opened s settled) at e)
@@ -220,12 +82,7 @@ module _ (text : List ℕ) where
       loop_head_decided (init_statement text s init) (test text (header text s init) test1) (post_statement text (header text s init) post) (FailsInInit text s init) (FailsInTest text (header text s init) at test1)
       (FailsInPost text (header text s init) post) (init_decided s init settled) (λ h is. test_decided text (header text s init) (settled_header s init h settled is) at test1)
       (λ h is. post_statement_decided (header text s init) post (settled_header s init h settled is))
-  clause_decided s at (ranging t place e) settled = range_decided s at t e settled
-
-  slots_typed : (t : ValueType) (targets : Targets) → AllTyped (target_slots (Some t) targets)
-  slots_typed t no_targets = tt
-  slots_typed t (targets_assigned ls at) = tt
-  slots_typed t (targets_defined ns at) = with_typed t ns
+  clause_decided s at (ranging t place e) settled = mapped range_clause (range_in text s t e) (FailsInRange text s at t e) (range_decided text s at t e settled)
 
   settled_post_simple : (s : Scope) (m : Simple) → IsSettled s → IsSettled (behind_post_simple text s m)
   settled_post_simple s (tree.express e) settled = record { all = settled.all; formed = settled.formed }
@@ -245,7 +102,4 @@ module _ (text : List ℕ) where
   settled_clause s (counting init test1 post) h settled is =
       let r = and_then_some (λ i. option_and_then (λ x. option_map (for_clause i x) (post_statement text (header text s init) post)) (test text (header text s init) test1)) (init_statement text s init) h is in
       settled_post (header text s init) post (settled_header s init r.0 settled r.1)
-  settled_clause s (ranging t at e) h settled is =
-      let r = and_then_some (λ x. option_map (range_clause x) (option_and_then key_of (target_lefts text (opened s) (number_type (operand_in (gives text s e))) t))) (over text s e) h is in
-      subst (λ (o : Option ValueType). IsSettled (behind_entries text (opened s) (target_slots o t))) (sym (number_is (operand_in (gives text s e)) r.0 r.1))
-      (settled_entries text (opened s) (target_slots (Some Int) t) (slots_typed Int t) (settled_opened s settled))
+  settled_clause s (ranging t at e) h settled is = let q = map_some range_clause (range_in text s t e) h is in settled_range text s t at e q.0 settled q.1

@@ -16,7 +16,7 @@ use Rattle.names.proofs.Settled.{IsSettled}
 use Rattle.expression_types.specs.Typing.{seen}
 use Rattle.expression_types.specs.Faults.{FailsInEach}
 use Rattle.expression_types.proofs.Settled.{seen_decided}
-use Rattle.expression_types.proofs.Places.{AllAsk}
+use Rattle.given_values.proofs.Places.{AllAsk}
 use Rattle.signatures.specs.Failing.{fault_where}
 use Rattle.signatures.proofs.SettledEntries.{settled_opened, settled_closed}
 use Rattle.simple_statements.specs.SimpleStatements.{Returns, before, returned, simple_statement}

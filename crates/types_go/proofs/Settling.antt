@@ -18,10 +18,10 @@ use Rattle.names.specs.declared.scope.Known.TheVariants as known_as
 use Rattle.names.specs.Scope.{Scope, declaration, with_known}
 use Rattle.names.specs.Types.{is_known, declared_type, known_array, array_type as array_of}
 use Rattle.operand_parts.specs.ArrayTypes.{length_of, array_with}
-use Rattle.expression_types.specs.Typing.{operand_in, gives, stated_type}
+use Rattle.expression_types.specs.Typing.{stated_type, early_gives}
 use Rattle.package_values.specs.declared.items.Role.{Role}
 use Rattle.package_values.specs.declared.items.Role.TheVariants as role
-use Rattle.package_values.specs.Values.{Item, constant_in, with_type, accepted, given_by, variable_type, given_as, given, look, looks, settled}
+use Rattle.package_values.specs.Values.{Item, with_type, accepted, given_by, variable_type, given_as, given, look, looks, settled, as_constant}
 use Rattle.package_values.proofs.Giving.{allowed_gives}
 use Rattle.types_go.proofs.Alike.{SameConstant, Alike, declaration_alike, set_alike}
 use Rattle.types_go.proofs.Constants.{constant_kept}
@@ -84,7 +84,7 @@ module _ (text : List ℕ) (T : Table) (int : is_known T Int ≡ true) (bool : i
         ]
     basic_stated (paren at e) u basic h = basic_stated e u basic h
     basic_stated (array_type at len e) u basic h =
-        let n = option_and_then length_of (operand_in (gives text r len)) in
+        let n = option_and_then length_of (early_gives text r len) in
         absurd (array_not_basic r.types n (stated_type text r e) u h basic)
     basic_stated e u basic h = absurd (none_some h)
 
@@ -99,7 +99,7 @@ module _ (text : List ℕ) (T : Table) (int : is_known T Int ≡ true) (bool : i
     value_kept : (t v : Option TreeEx) (f : Fixed) → given_by text r t v ≡ Some f → given_by text s t v ≡ Some f
     value_kept t None f h = absurd (none_some h)
     value_kept t (Some e) f h =
-        let p = and_then_some (accepted text r t) (constant_in (gives text r e)) f h in
+        let p = and_then_some (accepted text r t) (option_and_then as_constant (early_gives text r e)) f h in
         ap (option_and_then (accepted text s t)) (constant_kept text T r s a e p.0 p.1) ∙ accepted_kept t p.0 f p.2
 
     same_value : (f g : Fixed) → known_as.Constant f ≡ known_as.Constant g → f ≡ g

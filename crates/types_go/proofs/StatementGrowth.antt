@@ -1,13 +1,22 @@
 -- What a statement keeps of a scope.
-use Rattle.std.proofs.Common.{ℕ, List, Option, Some, None}
-use Rattle.syntax.specs.Statements.{Simple, Guard, Clause, forever, while_true, counting, ranging, Stm, Stms, Els}
+use Rattle.std.proofs.Common.{ℕ, List, [], Option, Some, None, refl, sym, arith, append-nil}
+use Rattle.base.specs.declared.pos.Pos.{Pos}
+use Rattle.base.specs.declared.value_type.ValueType.{ValueType}
+use Rattle.syntax.specs.Expressions.{Ex as TreeEx}
+use Rattle.syntax.specs.Statements.{Simple, Guard, Targets, Clause, forever, while_true, counting, ranging, Stm, Stms, Els}
 use Rattle.syntax.specs.Statements as tree
 use Rattle.names.specs.Scope.{Scope, opened, closed}
-use Rattle.expression_types.specs.Typing.{operand_in, gives}
+use Rattle.expression_types.specs.Typing.{gives}
 use Rattle.signatures.proofs.Growth.{Grows, Keeps, grows_none, grows_twice, keeps_twice, keeps_none, keeps_grows, keeps_strings, keeps_inner, grows_entries}
 use Rattle.simple_statements.specs.SimpleStatements.{strings_in}
 use Rattle.simple_statements.proofs.Growth.{grows_simple, grows_specs}
-use Rattle.types_go.specs.Statements.{number_type, target_slots, header, behind_post_simple, behind_post, clause_scope, behind, behind_else, behind_all}
+use Rattle.types_go.specs.Ranges.{target_slots, copied, behind_copy, ranged, given, target_count, behind_targets, behind_range}
+use Rattle.types_go.specs.Statements.{header, behind_post_simple, behind_post, clause_scope, behind, behind_else, behind_all}
+
+-- the site of a copy
+pub keeps_copy : (s : Scope) (t : Option ValueType) (at : Pos) → Keeps s (behind_copy s t at)
+keeps_copy s None at = keeps_none s
+keeps_copy s (Some t) at = record { blocks = refl; declared = ([], sym (append-nil s.declared), tt); sites = (_, refl); kept = refl; strings = omega arith }
 
 module _ (text : List ℕ) where
   pub grows_header : (s : Scope) (init : Option Simple) → Grows (opened s) (header text s init)
@@ -27,13 +36,19 @@ module _ (text : List ℕ) where
   keeps_post s None = keeps_none s
   keeps_post s (Some m) = keeps_post_simple s m
 
+  pub grows_range : (s : Scope) (t : Targets) (at : Pos) (e : TreeEx) → Grows (opened s) (behind_range text s t at e)
+  grows_range s t at e =
+      let r = behind_targets text s t e in
+      let behind1 = behind_range text s t at e in
+      grows_twice (opened s) r behind1 (grows_entries text (opened s) (target_slots (given text s e) t)) (keeps_grows r behind1 (keeps_copy r (copied (ranged text s e) (target_count text (opened s) t)) at))
+
   pub grows_clause : (s : Scope) (c : Clause) → Grows (opened s) (clause_scope text s c)
   grows_clause s forever = grows_none (opened s)
   grows_clause s (while_true e) = grows_none (opened s)
   grows_clause s (counting init test post) =
       let h = header text s init in
       grows_twice (opened s) h (behind_post text h post) (grows_header s init) (keeps_grows h (behind_post text h post) (keeps_post h post))
-  grows_clause s (ranging t at e) = grows_entries text (opened s) (target_slots (number_type (operand_in (gives text s e))) t)
+  grows_clause s (ranging t at e) = grows_range s t at e
 
   -- what is after the header keeps the header's block
   keeps_headed : (s h r : Scope) → Grows (opened s) h → Keeps h r → Keeps s (closed r)

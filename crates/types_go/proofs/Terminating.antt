@@ -25,17 +25,20 @@ use Rattle.names.specs.declared.scope.Declared.{Declared}
 use Rattle.names.specs.declared.scope.Declared.TheVariants.{Variable, Untyped, Panic}
 use Rattle.names.specs.Scope.{Scope, declaration, opened, closed}
 use Rattle.names.specs.Naming.{name_in}
-use Rattle.expression_types.specs.Typing.{Part, Gives, one, called, asking, quoted, printed, panicked, exited, operand_in, Seen, parts, taken, panicked_with, called_with, spread_over, callee_declared, callee, spec_wanted, gives, seen, condition, test}
+use Rattle.given_values.specs.Given.{Part, Gives, one, called, asking, quoted, printed, panicked, exited, operand_in, Seen, parts, taken, panicked_with, called_with, spread_over, callee_declared, callee}
+use Rattle.expression_types.specs.Typing.{spec_wanted, gives, seen, condition, test, are_quiet}
 use Rattle.signatures.specs.Entries.{sites_of, entry_left}
 use Rattle.signatures.proofs.Growth.{keeps_grows}
 use Rattle.simple_statements.specs.SimpleStatements.{Returns, only, before, expressed, assignment, updated, stepped, returned, lefts, all_wanted, new_lefts, all_new_wanted, may_define, own_value, update_statement, simple_statement, is_bare, spec_entries, is_known, spec_declared, spec_assigned, spec_statement, spec_statements, behind_spec}
 use Rattle.simple_statements.proofs.SettledValues.{allowed_is}
 use Rattle.simple_statements.proofs.SettledSimple.{where_some, assignment_some}
 use Rattle.terminating.specs.Terminating.{is_endless, leaves, leaves_else, leaves_any, is_panic, names_panic, panics, ends_simple, is_terminating, is_terminating_else, ends_after}
-use Rattle.types_go.specs.Statements.{Choice, Head, for_clause, range_clause, alone, declared_in, headed, for_of, choice_of, loop_of, header, init_statement, post_statement, guard_head, clause_scope, clause_head, key_of, number_type, over, target_lefts, behind, behind_all, statement, alternative, statements}
+use Rattle.types_go.specs.Ranges.{range_in}
+use Rattle.types_go.specs.Statements.{Choice, Head, for_clause, range_clause, alone, declared_in, headed, for_of, choice_of, loop_of, header, init_statement, post_statement, guard_head, clause_scope, clause_head, behind, behind_all, statement, alternative, statements}
 use Rattle.types_go.proofs.StatementGrowth.{grows, grows_header, keeps_block}
 use Rattle.types_go.proofs.Inside.{Inside, inside_opened, inside_grows, MayPanic, panic_inside}
 use Rattle.types_go.proofs.SettledStatements.{choice_some, loop_some}
+use Rattle.given_values.proofs.ValuesFit.{allowed_some}
 
 abbrev pub ends_last : Bool → Sts → Bool
 ends_last e done = e
@@ -168,7 +171,9 @@ module _ (text : List ℕ) where
 
   panic_gives : (base s : Scope) → Inside base s → (e : TreeEx) (g : Gives) → panics text base e ≡ true → gives text s e ≡ Some g → IsPanicked g
   panic_gives base s inside (paren at e) g panic1 is = panic_gives base s inside e g panic1 is
-  panic_gives base s inside (call f es spread) g panic1 is = by (name_in f) panic1 is
+  panic_gives base s inside (call f es spread) g panic1 is =
+      let k = spread_over spread (callee text s (name_in f) (gives text s f)) in
+      by (name_in f) panic1 (allowed_some (are_quiet k (seen text s es)) (called_with (first_pos f) k (seen text s es)) g is).1
     where
       by : (o : Option Name) → names_panic text base o ≡ true → called_with (first_pos f) (spread_over spread (callee text s o (gives text s f))) (seen text s es) ≡ Some g → IsPanicked g
       by None o_is is1 = cc o_is
@@ -244,9 +249,7 @@ module _ (text : List ℕ) where
       let o = map_some (for_clause r.0 q.0) (post_statement text h post) k q.2 in
       ap (λ (x : Head). breaks (for_of x y)) (sym o.2) ∙ headed_breaks r.0 (for_stmt (declared_in r.0) q.0 o.0 y) (init_still s init r.0 r.1)
   loop_still s (ranging t at e) k y is =
-      let n = number_type (operand_in (gives text s e)) in
-      let r = and_then_some (λ x. option_map (range_clause x) (option_and_then key_of (target_lefts text (opened s) n t))) (over text s e) k is in
-      let q = map_some (range_clause r.0) (option_and_then key_of (target_lefts text (opened s) n t)) k r.2 in
+      let q = map_some range_clause (range_in text s t e) k is in
       ap (λ (x : Head). breaks (for_of x y)) (sym q.2)
 
   -- an endless loop that nothing leaves

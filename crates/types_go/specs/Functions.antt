@@ -19,7 +19,8 @@ use Rattle.type_faults.specs.Given.{allowed}
 use Rattle.names.specs.Universe.{is_blank, is_main}
 use Rattle.names.specs.declared.scope.Known.{Known}
 use Rattle.names.specs.Scope.{Scope, declaration, known, with_site, opened, closed, beginning}
-use Rattle.expression_types.specs.Typing.{known_type, wanted_by, gives}
+use Rattle.given_values.specs.Given.{known_type, wanted_by}
+use Rattle.expression_types.specs.Typing.{gives}
 use Rattle.struct_sizes.specs.Structs.{Fields}
 use Rattle.declared_structs.specs.Forms.{structs_in}
 use Rattle.declared_structs.specs.Tables.{IsTableOf}

@@ -1,24 +1,15 @@
 -- The typed statements that the rules of the language give a tree (Go specification, "If statements", "For statements", "Break statements",
 -- "Continue statements", "Return statements").
-use Rattle.std.specs.Prelude.{ℕ, Bool, true, not, ◌&&◌, List, [], ◌∷◌, map, Option, Some, None, option_and_then, if◌then◌else◌}
+use Rattle.std.specs.Prelude.{ℕ, Bool, true, List, [], ◌∷◌, Option, Some, None, option_and_then}
 use Rattle.std.specs.Option.{option_map}
-use Rattle.syntax.specs.declared.expression.Name.{Name}
-use Rattle.syntax.specs.Expressions.{Ex as TreeEx, spelled}
-use Rattle.syntax.specs.Statements.{Simple, Guard, Targets, no_targets, targets_assigned, targets_defined, Clause, forever, while_true, counting, ranging, Stm, Stms, Els}
+use Rattle.syntax.specs.Statements.{Simple, Guard, Clause, forever, while_true, counting, ranging, Stm, Stms, Els}
 use Rattle.syntax.specs.Statements as tree
-use Rattle.typed_syntax.specs.Syntax.{Ex, Left, St, Sts, blank, new, to, over_int, assign, block, if_stmt, for_stmt, range, break_stmt, continue_stmt, done, next}
-use Rattle.base.specs.declared.value_type.ValueType.{ValueType}
-use Rattle.base.specs.declared.value_type.ValueType.TheVariants.{Int}
+use Rattle.typed_syntax.specs.Syntax.{Ex, Left, St, Sts, blank, new, to, assign, block, if_stmt, for_stmt, range, break_stmt, continue_stmt, done, next}
 use Rattle.type_faults.specs.Given.{allowed}
-use Rattle.operators.specs.Operands.{Operand, is_assignable, as_value}
-use Rattle.names.specs.Universe.{is_blank}
 use Rattle.names.specs.Scope.{Scope, opened, closed}
-use Rattle.expression_types.specs.declared.wants.Wanted.{Wanted}
-use Rattle.expression_types.specs.Typing.{accepts, operand_in, gives, seen, condition, test}
-use Rattle.signatures.specs.declared.slots.Slot.{Slot}
-use Rattle.signatures.specs.declared.entries.Role.TheVariants.{Parameter}
-use Rattle.signatures.specs.Entries.{entry_left, slot_with, entries, behind_entries}
-use Rattle.simple_statements.specs.SimpleStatements.{Returns, before, returned, lefts, all_wanted, behind_simple, simple_statement, spec_statements, behind_specs}
+use Rattle.expression_types.specs.Typing.{seen, condition, test}
+use Rattle.simple_statements.specs.SimpleStatements.{Returns, before, returned, behind_simple, simple_statement, spec_statements, behind_specs}
+use Rattle.types_go.specs.Ranges.{Range, behind_range, range_in}
 
 -- ---- statements of their parts
 
@@ -49,14 +40,17 @@ pub record Choice : Type 0 where
 abbrev pub chosen : Choice → Sts → Sts → St
 chosen h a b = headed h.init (if_stmt h.condition a b)
 
--- the header of a loop, or of one over an int with what gets the number
+-- the header of a loop
 pub data Head : Type 0 where
   for_clause : Option St → Option Ex → Sts → Head
-  range_clause : Ex → Left → Head
+  range_clause : Range → Head
+
+abbrev pub range_stmt : Range → Sts → St
+range_stmt r body = range r.over r.key r.value body
 
 abbrev pub for_of : Head → Sts → St
 for_of (for_clause init test1 post) body = headed init (for_stmt (declared_in init) test1 post body)
-for_of (range_clause e key) body = range (over_int e) key blank body
+for_of (range_clause r) body = range_stmt r body
 
 abbrev pub choice_of : Option Choice → Option Sts → Option Sts → Option St
 choice_of h a b = option_and_then (λ c. option_and_then (λ y. option_map (chosen c y) b) a) h
@@ -70,31 +64,6 @@ choice_head i c = option_and_then (λ h. option_map (λ x. record { init = h; co
 abbrev pub loop_head : Option (Option St) → Option (Option Ex) → Option Sts → Option Head
 loop_head i c post = option_and_then (λ h. option_and_then (λ x. option_map (for_clause h x) post) c) i
 
--- what gets the number of a `range`: one left side at most, and a blank one after it is as if absent
-abbrev pub key_of : List Left → Option Left
-key_of [] = Some blank
-key_of (l ∷ []) = Some l
-key_of (l ∷ blank ∷ []) = Some l
-key_of (l ∷ k ∷ ls) = None
-
-abbrev pub range_head : Option Ex → Option (List Left) → Option Head
-range_head e ls = option_and_then (λ x. option_map (range_clause x) (option_and_then key_of ls)) e
-
--- an int that a `range` goes over
-abbrev pub as_int : Operand → Option Ex
-as_int x = allowed (is_assignable Int x) (as_value x)
-
--- the type of the numbers: of an int, whatever its value
-abbrev pub number_type : Option Operand → Option ValueType
-number_type None = None
-number_type (Some x) = if is_assignable Int x then Some Int else None
-
--- whether left sides that ask for this may get a value of a type, where that is known
-abbrev pub all_accept : Option ValueType → List Wanted → Bool
-all_accept None ps = true
-all_accept (Some t) [] = true
-all_accept (Some t) (p ∷ ps) = accepts p t && all_accept (Some t) ps
-
 -- the init and the post statement of a loop
 abbrev pub init_in : Clause → Option Simple
 init_in forever = None
@@ -107,12 +76,6 @@ post_in forever = None
 post_in (while_true e) = None
 post_in (counting init test1 post) = post
 post_in (ranging t pos e) = None
-
--- the new variables of a `range`
-abbrev pub target_slots : Option ValueType → Targets → List Slot
-target_slots t no_targets = []
-target_slots t (targets_assigned ls pos) = []
-target_slots t (targets_defined ns pos) = map (slot_with t) ns
 
 module _ (text : List ℕ) where
   -- ---- headers of `if` and `for`
@@ -147,31 +110,18 @@ module _ (text : List ℕ) where
   abbrev pub guard_head : Scope → Guard → Option Choice
   guard_head s g = choice_head (init_statement s g.init) (condition text (header s g.init) g.condition)
 
-  -- the int that a `range` goes over, outside of the block of the header, and what gets the numbers
-  abbrev pub over : Scope → TreeEx → Option Ex
-  over s e = option_and_then as_int (operand_in (gives text s e))
-
-  abbrev pub all_blank : List Name → Bool
-  all_blank [] = true
-  all_blank (n ∷ ns) = is_blank (spelled text n) && all_blank ns
-
-  abbrev pub target_lefts : Scope → Option ValueType → Targets → Option (List Left)
-  target_lefts s t no_targets = Some []
-  target_lefts s t (targets_assigned ls pos) = allowed (all_accept t (all_wanted text s ls)) (lefts text s ls)
-  target_lefts s t (targets_defined ns pos) = allowed (not (all_blank ns)) (option_map (map entry_left) (entries text Parameter s (map (slot_with t) ns)))
-
   -- the scope of a loop's body, around its block: after the header
   abbrev pub clause_scope : Scope → Clause → Scope
   clause_scope s forever = opened s
   clause_scope s (while_true e) = opened s
   clause_scope s (counting init test1 post) = behind_post (header s init) post
-  clause_scope s (ranging t pos e) = behind_entries text (opened s) (target_slots (number_type (operand_in (gives text s e))) t)
+  clause_scope s (ranging t pos e) = behind_range text s t pos e
 
   abbrev pub clause_head : Scope → Clause → Option Head
   clause_head s forever = Some (for_clause None None done)
   clause_head s (while_true e) = loop_head (Some None) (option_map Some (condition text (opened s) e)) (Some done)
   clause_head s (counting init test1 post) = loop_head (init_statement s init) (test text (header s init) test1) (post_statement (header s init) post)
-  clause_head s (ranging t pos e) = range_head (over s e) (target_lefts (opened s) (number_type (operand_in (gives text s e))) t)
+  clause_head s (ranging t pos e) = option_map range_clause (range_in text s t e)
 
   -- ---- the scope after a statement
 

@@ -11,12 +11,13 @@ ghost use Rattle.type_faults.specs.Faults.{fault as fault_at, IsFault};
 ghost use Rattle.type_faults.specs.declared.fault.FaultKind.TheVariants.{BreakOutside as Outside};
 ghost use Rattle.names.specs.Scope.{scope_of, opened, closed};
 ghost use Rattle.simple_statements.specs.SimpleStatements.{returns_view, before};
-ghost use Rattle.types_go.specs.Statements.{alone, headed, new_in, declared_in, chosen, for_of, choice_of, loop_of, statement, alternative, statements, behind, behind_else, behind_all};
+ghost use Rattle.types_go.specs.Statements.{alone, headed, new_in, declared_in, chosen, range_stmt, for_of, choice_of, loop_of, statement, alternative, statements, behind, behind_else, behind_all};
 ghost use Rattle.signatures.specs.Failing.{fault_where};
 ghost use Rattle.types_go.specs.StatementFaults.{FailsInStatement, FailsInElse, FailsInStatements};
-ghost use Rattle.types_go.specs.StatementPassing.{choice_view, head_view, with_more};
+ghost use Rattle.types_go.specs.StatementPassing.{choice_view, range_view, head_view, with_more};
 
 use crate::heads::{Choice, Guarded, Head, Headed, alone, check_clause, check_guard};
+use crate::ranges::Range;
 use base::{NoMemory, Pos, SiteId};
 use names::Scope;
 use signatures::fault_where;
@@ -109,6 +110,20 @@ fn chosen(
     headed(alloc, init, typed::Stmt::If(condition, body, rest))
 }
 
+/// A `range` of its header and its body.
+#[tactic(auto, using(typed::proofs::Rows::stmt_rows))]
+fn range_stmt(header: Range, body: Vec<typed::Stmt>) -> typed::Stmt
+    ensures { st_of result ≡ range_stmt (range_view header) (sts_of body.items) }
+{
+    match header {
+        Range::Count(e, key) => typed::Stmt::Count(e, key, body),
+        Range::Indices(length, key) => typed::Stmt::Indices(length, key, body),
+        Range::Elements(site, e, length, key, value) => {
+            typed::Stmt::Elements(site, e, length, key, value, body)
+        }
+    }
+}
+
 /// A loop of its header and its body.
 #[tactic(auto, using(typed::proofs::Rows::stmt_rows))]
 fn for_of(alloc: Global, head: Head, body: Vec<typed::Stmt>) -> Result<typed::Stmt, NoMemory>
@@ -123,7 +138,7 @@ fn for_of(alloc: Global, head: Head, body: Vec<typed::Stmt>) -> Result<typed::St
             };
             headed(alloc, init, typed::Stmt::For(sites, test, post, body))
         }
-        Head::RangeClause(e, key) => Ok(typed::Stmt::Count(e, key, body)),
+        Head::RangeClause(range) => Ok(range_stmt(range, body)),
     }
 }
 
@@ -276,7 +291,10 @@ fn check_stmt(
         }
         Stmt::For(pos, clause, body) => {
             let head = check_clause(alloc, text, scope, *pos, clause)?;
-            let body = check_inner(alloc, text, returns, true, scope, body)?;
+            let Ok(body) = check_inner(alloc, text, returns, true, scope, body) else {
+                drop(head);
+                return Err(NoMemory);
+            };
             scope.close();
             for_clause(alloc, head, body)
         }

@@ -23,6 +23,7 @@ mod functions;
 mod heads;
 mod members;
 mod pass;
+mod ranges;
 
 pub use checking::check;
 pub use type_faults::{Fault, FaultKind, TypeFault};

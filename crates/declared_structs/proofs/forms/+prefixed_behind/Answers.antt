@@ -7,7 +7,7 @@ use Rattle.names.specs.Scope.{scope_of}
 use Rattle.struct_sizes.specs.declared.forms.Prefix.{Prefix}
 use Rattle.struct_sizes.specs.declared.forms.Prefix.TheVariants.{Array}
 use Rattle.operand_parts.specs.ArrayTypes.{length_of}
-use Rattle.expression_types.specs.Typing.{operand_in, gives}
+use Rattle.expression_types.specs.Typing.{early_gives}
 use Rattle.declared_structs.specs.Forms.{array_of, prefixed}
 use Rattle.declared_structs.specs.Passing.{behind}
 use Rattle.declared_structs.proofs.Lists.{behind_array}
@@ -26,6 +26,6 @@ returns-in_ok-push-in-ArrayType c = λ d.
     e ∙ ap (λ (l : List Prefix). option_map (behind l) (prefixed text s (ex_of d.deref-element.result.now))) d.in_ok-push-in-ArrayType.ensures.items
     ∙ ap (λ (y : Expr). option_map (behind (ps ++ Array n ∷ [])) (prefixed text s (ex_of y))) d.deref-element.ensures ∙ behind_array ps n inner
     ∙ ap (λ (o : Option ℕ). option_map (behind ps) (option_and_then (λ (m : ℕ). option_map (array_of m) inner) o))
-    (sym d.in-Some.is ∙ d.in_ok-length-in-ArrayType.ensures ∙ ap (λ (y : Expr). option_and_then length_of (operand_in (gives text s (ex_of y)))) d.deref.ensures)
+    (sym d.in-Some.is ∙ d.in_ok-length-in-ArrayType.ensures ∙ ap (λ (y : Expr). option_and_then length_of (early_gives text s (ex_of y))) d.deref.ensures)
     ∙ sym (ap (λ (y : Expr). option_map (behind ps) (prefixed text s (ex_of y))) d.in-ArrayType.is))
     d.prefixed_behind-in-ArrayType.ensures

@@ -1,5 +1,5 @@
 use Rattle.std.proofs.Common.{◌≡◌, ◌⊎◌, IfOk, [], ◌∷◌, ◌++◌, ◌+◌, List, drop, true, false, Option, Some, None, sym, ap, ◌∙◌, subst, refl, arith, append-nil, rules}
-use Rattle.std.specs.Option.{option_map}
+use Rattle.std.specs.Option.{option_map, option_and_then}
 use Rattle.base.specs.declared.pos.Pos.{Pos}
 use Rattle.syntax.specs.declared.expression.Expr.{Expr}
 use Rattle.syntax.specs.declared.expression.Element.{Element}
@@ -22,16 +22,21 @@ use Rattle.operand_parts.specs.declared.literal_values.Placed.{Placed as PlacedD
 use Rattle.operand_parts.specs.Passing.{elision_of, placed_of, placeds}
 use Rattle.names.specs.Scope.{scope_of}
 use Rattle.names.specs.Naming.{name_in}
-use Rattle.expression_types.specs.declared.gives.Item.{Item}
+use Rattle.given_values.specs.declared.gives.Item.{Item}
 use Rattle.expression_types.specs.declared.expressions.Checked.{Checked}
-use Rattle.expression_types.specs.Typing.{operand_in, callee, spread_over, gives, stated_type, placed, element_gives, seen}
-use Rattle.expression_types.specs.Faults.{CallFails, Fails, FailsInEach, FailsAsOperand, StatedFails, FailsInElements, FailsInLiteral, FailsInElement, CalleeFails, single_fault}
-use Rattle.expression_types.specs.Passing.{gives_of, callee_of, seen_of, seens, key_in, element_value, is_bare, IsLiteralFault}
+use Rattle.given_values.specs.Given.{operand_in, callee, spread_over}
+use Rattle.expression_types.specs.Typing.{early_gives, gives, stated_type, placed, element_gives, seen}
+use Rattle.given_values.specs.GivenFaults.{CallFails, CalleeFails, single_fault}
+use Rattle.expression_types.specs.Faults.{quiet_fault, FailsEarly, Fails, FailsInEach, FailsAsOperand, StatedFails, FailsInElements, FailsInLiteral, FailsInElement}
+use Rattle.given_values.specs.Passing.{gives_of, callee_of, seen_of, seens}
+use Rattle.expression_types.specs.Passing.{key_in, element_value, is_bare, IsLiteralFault}
 use Rattle.type_faults.proofs.Lists.{from_one, nothing_left}
-use Rattle.expression_types.proofs.Items.{pushed}
+use Rattle.given_values.proofs.Items.{pushed}
 use Rattle.expression_types.proofs.LiteralNodes.{typed_least, placed_next, fails_next, elements_next, literal_least, elements_least, elided_least, array_least, placed_pushed}
-use Rattle.expression_types.proofs.Nodes.{unary_least, binary_least, selector_least, index_least, call_least}
+use Rattle.expression_types.proofs.Nodes.{unary_least, binary_least, selector_least, index_least, call_least, length_least}
 use Rattle.expression_types.proofs.expressions.+expressions.Goals as goal
+use Rattle.operand_parts.specs.ArrayTypes.{length_of, array_with}
+use Rattle.operators.specs.Operands.{Operand}
 
 pub check_callee-returns-in_ok-callee-in-Some-clause-fault : goal.check_callee-returns-in_ok-callee-in-Some-clause-fault
 check_callee-returns-in_ok-callee-in-Some-clause-fault t c =
@@ -92,10 +97,14 @@ check_expr-returns-in_ok-listed-in-Call-clause-fault t c =
     let a : IsLeast (CalleeFails text s (name_in (ex_of g)) (λ f. Fails text s (ex_of g) f) (gives text s (ex_of g))) called.fault =
     subst (λ (x : Expr). IsLeast (CalleeFails text s (name_in (ex_of x)) (λ f. Fails text s (ex_of x) f) (gives text s (ex_of x))) called.fault) c.deref-in-Call.ensures c.in_ok-called-in-Call.ensures.fault in
     let b : IsLeast (FailsInEach text s (exs_of es)) listed.fault = subst (λ (l : List Expr). IsLeast (FailsInEach text s (exs_of l)) listed.fault) c.deref-in-Call-2.ensures.value c.in_ok-listed-in-Call.ensures.fault in
-    let at : c.pos.result ≡ first_pos (ex_of g) = subst (λ (x : Expr). c.pos.result ≡ first_pos (ex_of x)) c.deref-in-Call-3.ensures c.pos.ensures in
-    let own : IfOk c.call_of.result (λ r. IsLesserWith (CallFails (first_pos (ex_of g)) k os) (lesser called.fault listed.fault) r.fault) =
-    subst (λ (p : Pos). IfOk c.call_of.result (λ r. IsLesserWith (CallFails p k os) (lesser called.fault listed.fault) r.fault)) at c.call_of.ensures.fault in
-    rw (shape) (if_ok _ _ c.call_of.result (λ r h. call_least text s (ex_of g) (exs_of es) spread k os called.fault listed.fault r.fault k_is os_is a b h) own)
+    let at : c.pos.result ≡ first_pos (ex_of g) = subst (λ (x : Expr). c.pos.result ≡ first_pos (ex_of x)) c.deref-in-Call-5.ensures c.pos.ensures in
+    let inner = c.quiet_fault-inner.result in
+    let inner_is : inner ≡ quiet_fault text s k (exs_of es) os =
+    subst (λ (l : List Item). inner ≡ quiet_fault text s k (exs_of es) (seens l)) c.deref-in-Call-4.ensures.value
+    (subst (λ (l : List Expr). inner ≡ quiet_fault text s k (exs_of l) (seens c.deref-in-Call-4.result.now)) c.deref-in-Call-3.ensures.value c.quiet_fault-inner.ensures) in
+    let own : IfOk c.call_of.result (λ r. IsLesserWith (λ f. CallFails (first_pos (ex_of g)) k os f ⊎ IsFault inner f) (lesser called.fault listed.fault) r.fault) =
+    subst (λ (p : Pos). IfOk c.call_of.result (λ r. IsLesserWith (λ f. CallFails p k os f ⊎ IsFault inner f) (lesser called.fault listed.fault) r.fault)) at c.call_of.ensures.fault in
+    rw (shape) (if_ok _ _ c.call_of.result (λ r h. call_least text s (ex_of g) (exs_of es) spread k os called.fault listed.fault inner r.fault k_is os_is inner_is a b h) own)
 
 pub check_expr-returns-in-Slice-clause-fault : goal.check_expr-returns-in-Slice-clause-fault
 check_expr-returns-in-Slice-clause-fault t c =
@@ -210,11 +219,31 @@ check_expr-returns-in_ok-literal-in-Literal-clause-fault t c =
     let b = subst (λ (v : Option ValueType). IsLeast (FailsInLiteral text s (first_pos (ex_of g)) v (elements_of es)) inner.fault) u b1 in
     rw (shape, c.typed_literal.ensures.fault) (literal_least text s (ex_of g) (elements_of es) stated.fault inner.fault a b)
 
+pub check_early-returns-clause-fault : goal.check_early-returns-clause-fault
+check_early-returns-clause-fault t c =
+    let single = c.in_ok-single.single in
+    rw (c.early.ensures.fault, c.call_in.ensures)
+    (length_least c.args.text.now (scope_of c.args.scope.now) (ex_of c.args.e.now) single.fault (option_map operand_of single.operand) c.in_ok-single.ensures.fault c.in_ok-single.ensures.operand)
+
 pub check_stated-returns-in-Paren-clause-fault : goal.check_stated-returns-in-Paren-clause-fault
 check_stated-returns-in-Paren-clause-fault t c =
     let text = c.args.text.now in
     let s = scope_of c.args.scope.now in
     rw (c.in-Paren.is) (subst (λ (x : Expr). IfOk c.check_stated.result (λ r. IsLeast (StatedFails text s (ex_of x)) r.fault)) c.deref.ensures c.check_stated.ensures.fault)
+
+pub check_stated-returns-in_ok-element-in-ArrayType-clause-value_type : goal.check_stated-returns-in_ok-element-in-ArrayType-clause-value_type
+check_stated-returns-in_ok-element-in-ArrayType-clause-value_type t c =
+    let text = c.args.text.now in
+    let s = scope_of c.args.scope.now in
+    let a : Expr = c.in-ArrayType.length.value in
+    let b : Expr = c.in-ArrayType.element.value in
+    let of = c.in_ok-element-in-ArrayType.element in
+    let o = option_map operand_of c.in_ok-length-in-ArrayType.length.operand in
+    let o_is : o ≡ early_gives text s (ex_of a) = subst (λ (x : Expr). o ≡ early_gives text s (ex_of x)) c.deref-in-ArrayType.ensures c.in_ok-length-in-ArrayType.ensures.operand in
+    let u_is : of.value_type ≡ stated_type text s (ex_of b) = subst (λ (x : Expr). of.value_type ≡ stated_type text s (ex_of x)) c.deref-in-ArrayType-2.ensures c.in_ok-element-in-ArrayType.ensures.value_type in
+    rw (c.in-ArrayType.is)
+    (c.array_of.ensures.value_type ∙ ap (λ (x : Option Operand). array_with s.types (option_and_then length_of x) of.value_type) o_is
+    ∙ ap (λ (u : Option ValueType). array_with s.types (option_and_then length_of (early_gives text s (ex_of a))) u) u_is)
 
 pub check_stated-returns-in_ok-element-in-ArrayType-clause-fault : goal.check_stated-returns-in_ok-element-in-ArrayType-clause-fault
 check_stated-returns-in_ok-element-in-ArrayType-clause-fault t c =
@@ -225,9 +254,9 @@ check_stated-returns-in_ok-element-in-ArrayType-clause-fault t c =
     let long = c.in_ok-length-in-ArrayType.length in
     let of = c.in_ok-element-in-ArrayType.element in
     let o = option_map operand_of long.operand in
-    let l : IsLeast (FailsAsOperand text s (ex_of a)) long.fault = subst (λ (x : Expr). IsLeast (FailsAsOperand text s (ex_of x)) long.fault) c.deref-in-ArrayType.ensures c.in_ok-length-in-ArrayType.ensures.fault in
+    let l : IsLeast (FailsEarly text s (ex_of a)) long.fault = subst (λ (x : Expr). IsLeast (FailsEarly text s (ex_of x)) long.fault) c.deref-in-ArrayType.ensures c.in_ok-length-in-ArrayType.ensures.fault in
     let r : IsLeast (StatedFails text s (ex_of b)) of.fault = subst (λ (x : Expr). IsLeast (StatedFails text s (ex_of x)) of.fault) c.deref-in-ArrayType-2.ensures c.in_ok-element-in-ArrayType.ensures.fault in
-    let o_is : o ≡ operand_in (gives text s (ex_of a)) = subst (λ (x : Expr). o ≡ operand_in (gives text s (ex_of x))) c.deref-in-ArrayType.ensures c.in_ok-length-in-ArrayType.ensures.operand in
+    let o_is : o ≡ early_gives text s (ex_of a) = subst (λ (x : Expr). o ≡ early_gives text s (ex_of x)) c.deref-in-ArrayType.ensures c.in_ok-length-in-ArrayType.ensures.operand in
     let u_is : of.value_type ≡ stated_type text s (ex_of b) = subst (λ (x : Expr). of.value_type ≡ stated_type text s (ex_of x)) c.deref-in-ArrayType-2.ensures c.in_ok-element-in-ArrayType.ensures.value_type in
     let at : long.pos ≡ first_pos (ex_of a) = subst (λ (x : Expr). long.pos ≡ first_pos (ex_of x)) c.deref-in-ArrayType.ensures c.in_ok-length-in-ArrayType.ensures.pos in
     rw (c.in-ArrayType.is, c.array_of.ensures.fault, at) (array_least text s c.in-ArrayType.bracket (ex_of a) (ex_of b) long.fault of.fault o of.value_type l r o_is u_is)

@@ -5,7 +5,7 @@ use Rattle.names.specs.Scope.{scope_of}
 use Rattle.expression_types.specs.Typing.{seen, placed}
 use Rattle.expression_types.specs.Faults.{FailsInEach, FailsInElements}
 use Rattle.operand_parts.specs.Passing.{placeds}
-use Rattle.expression_types.specs.Passing.{seens}
+use Rattle.given_values.specs.Passing.{seens}
 use Rattle.expression_types.proofs.expressions.+expressions.Given as goal
 
 abbrev pub invariant-check_list-loop-e : goal.invariant-check_list-loop-e

@@ -9,10 +9,12 @@ use Rattle.type_faults.specs.Faults.{fault}
 use Rattle.type_faults.specs.Least.{IsLeast}
 use Rattle.type_faults.proofs.Leasts.{least_join}
 use Rattle.names.specs.Scope.{scope_of}
-use Rattle.expression_types.specs.declared.wants.Wanted.{Wanted}
-use Rattle.expression_types.specs.Typing.{Seen, wanted_before, spec_wanted, seen}
-use Rattle.expression_types.specs.Faults.{TakeFails}
-use Rattle.expression_types.specs.Passing.{seens, type_before}
+use Rattle.given_values.specs.declared.wants.Wanted.{Wanted}
+use Rattle.given_values.specs.Given.{Seen, wanted_before}
+use Rattle.expression_types.specs.Typing.{spec_wanted, seen}
+use Rattle.given_values.specs.GivenFaults.{TakeFails}
+use Rattle.given_values.specs.Passing.{seens}
+use Rattle.expression_types.specs.Passing.{type_before}
 use Rattle.package_values.specs.ValueFaults.{is_bare, FormsFail, InitialsFail}
 use Rattle.package_values.proofs.faults.initials_fault.Goals as goal
 

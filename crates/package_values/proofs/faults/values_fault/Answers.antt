@@ -2,9 +2,9 @@ use Rattle.std.proofs.Common.{◌≡◌, [], ◌∷◌, ◌+◌, List, drop, ari
 use Rattle.std.specs.Option.{option_map}
 use Rattle.type_faults.specs.Faults.{IsFault}
 use Rattle.type_faults.proofs.Leasts.{Kept, kept_start, kept_more, kept_end, leaf}
-use Rattle.expression_types.specs.declared.gives.Item.{Item}
-use Rattle.expression_types.specs.Typing.{operand_in}
-use Rattle.expression_types.specs.Passing.{gives_of, seens}
+use Rattle.given_values.specs.declared.gives.Item.{Item}
+use Rattle.given_values.specs.Given.{operand_in}
+use Rattle.given_values.specs.Passing.{gives_of, seens}
 use Rattle.type_faults.proofs.Lists.{from_one, nothing_left}
 use Rattle.package_values.specs.ValueFaults.{value_fault, ValuesFail}
 use Rattle.package_values.proofs.faults.values_fault.Goals as goal

@@ -1,6 +1,6 @@
 use Rattle.std.proofs.Common.{drop}
 use Rattle.type_faults.proofs.Leasts.{Kept}
-use Rattle.expression_types.specs.Passing.{seens}
+use Rattle.given_values.specs.Passing.{seens}
 use Rattle.package_values.specs.ValueFaults.{ValuesFail}
 use Rattle.package_values.proofs.faults.values_fault.Given as goal
 

@@ -8,7 +8,7 @@ use Rattle.type_faults.proofs.Leasts.{least_join}
 use Rattle.names.specs.Scope.{scope_of}
 use Rattle.expression_types.specs.Typing.{seen}
 use Rattle.expression_types.specs.Faults.{FailsInEach, FailsBefore}
-use Rattle.expression_types.specs.Passing.{seens}
+use Rattle.given_values.specs.Passing.{seens}
 use Rattle.package_values.specs.ValueFaults.{is_bare, InitialsFail}
 use Rattle.package_values.proofs.faults.variables_fault.Goals as goal
 

@@ -4,9 +4,9 @@ use Rattle.typed_syntax.specs.Syntax.{Piece}
 use Rattle.typed.specs.View.{piece_of}
 use Rattle.typed.specs.declared.stmt.Piece.{Piece as PieceData}
 use Rattle.names.specs.Scope.{Scope, scope_of, with_strings}
-use Rattle.expression_types.specs.declared.gives.Part.{Part}
-use Rattle.expression_types.specs.Typing.{Part as PartView}
-use Rattle.expression_types.specs.Passing.{part_view}
+use Rattle.given_values.specs.declared.gives.Part.{Part}
+use Rattle.given_values.specs.Given.{Part as PartView}
+use Rattle.given_values.specs.Passing.{part_view}
 use Rattle.type_faults.proofs.Lists.{no_items}
 use Rattle.simple_statements.proofs.operands.pieces.Goals as goal
 use Rattle.simple_statements.specs.SimpleStatements.{strings_of, piece_from, pieces_from}

@@ -2,7 +2,7 @@ use Rattle.std.proofs.Common.{◌≡◌, ◌++◌, map, length}
 use Rattle.std.specs.Vec.Iter.{into_iter_items, into_iter_len}
 use Rattle.typed.specs.View.{piece_of}
 use Rattle.names.specs.Scope.{scope_of, with_strings}
-use Rattle.expression_types.specs.Passing.{part_view}
+use Rattle.given_values.specs.Passing.{part_view}
 use Rattle.simple_statements.proofs.operands.pieces.Given as goal
 use Rattle.simple_statements.specs.SimpleStatements.{strings_of, pieces_from}
 

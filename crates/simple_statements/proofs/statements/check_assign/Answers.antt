@@ -5,11 +5,11 @@ use Rattle.syntax.specs.Expressions.{exs_of}
 use Rattle.typed.specs.View.{left_of}
 use Rattle.type_faults.specs.Least.{IsLeast}
 use Rattle.names.specs.Scope.{scope_of}
-use Rattle.expression_types.specs.declared.wants.Wanted.{Wanted}
-use Rattle.expression_types.specs.declared.gives.Item.{Item}
-use Rattle.expression_types.specs.Typing.{count}
-use Rattle.expression_types.specs.Faults.{PlacedFail}
-use Rattle.expression_types.specs.Passing.{seens}
+use Rattle.given_values.specs.declared.wants.Wanted.{Wanted}
+use Rattle.given_values.specs.declared.gives.Item.{Item}
+use Rattle.given_values.specs.Given.{count}
+use Rattle.given_values.specs.GivenFaults.{PlacedFail}
+use Rattle.given_values.specs.Passing.{seens}
 use Rattle.simple_statements.proofs.statements.check_assign.Goals as goal
 use Rattle.simple_statements.proofs.LeastSimple.{assign_least}
 

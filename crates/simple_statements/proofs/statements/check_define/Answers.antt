@@ -6,8 +6,8 @@ use Rattle.type_faults.specs.declared.fault.FaultKind.TheVariants.{WrongCount}
 use Rattle.type_faults.specs.Faults.{fault}
 use Rattle.names.specs.Scope.{scope_of}
 use Rattle.expression_types.specs.Typing.{seen}
-use Rattle.expression_types.specs.Faults.{TakeFails}
-use Rattle.expression_types.specs.Passing.{seens}
+use Rattle.given_values.specs.GivenFaults.{TakeFails}
+use Rattle.given_values.specs.Passing.{seens}
 use Rattle.simple_statements.proofs.statements.check_define.Goals as goal
 use Rattle.simple_statements.specs.SimpleFaults.{names_place}
 use Rattle.simple_statements.specs.SimpleStatements.{all_new_wanted}

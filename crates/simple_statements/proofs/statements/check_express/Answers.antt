@@ -7,7 +7,7 @@ use Rattle.type_faults.proofs.Leasts.{least_join, leaf}
 use Rattle.names.specs.Scope.{scope_of}
 use Rattle.expression_types.specs.Typing.{gives}
 use Rattle.expression_types.specs.Faults.{Fails}
-use Rattle.expression_types.specs.Passing.{gives_of}
+use Rattle.given_values.specs.Passing.{gives_of}
 use Rattle.simple_statements.proofs.statements.check_express.Goals as goal
 use Rattle.simple_statements.specs.SimpleFaults.{use_fault}
 

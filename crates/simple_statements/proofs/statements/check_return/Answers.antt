@@ -3,9 +3,10 @@ use Rattle.type_faults.specs.Least.{IsLeast}
 use Rattle.syntax.specs.Expressions.{exs_of}
 use Rattle.type_faults.proofs.Leasts.{least_join}
 use Rattle.names.specs.Scope.{scope_of}
-use Rattle.expression_types.specs.Typing.{Seen, seen}
+use Rattle.given_values.specs.Given.{Seen}
+use Rattle.expression_types.specs.Typing.{seen}
 use Rattle.expression_types.specs.Faults.{FailsInEach}
-use Rattle.expression_types.specs.Passing.{seens}
+use Rattle.given_values.specs.Passing.{seens}
 use Rattle.simple_statements.proofs.statements.check_return.Goals as goal
 use Rattle.simple_statements.specs.SimpleStatements.{returns_view}
 use Rattle.simple_statements.specs.SimpleFaults.{ReturnFails}

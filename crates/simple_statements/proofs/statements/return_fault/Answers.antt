@@ -3,9 +3,9 @@ use Rattle.std.specs.Prelude.{◌==◌}
 use Rattle.type_faults.specs.declared.fault.FaultKind.TheVariants.{ResultCount}
 use Rattle.type_faults.specs.Least.{IsLeast}
 use Rattle.type_faults.specs.Faults.{fault}
-use Rattle.expression_types.specs.declared.wants.Wanted.{Wanted}
-use Rattle.expression_types.specs.Faults.{TakeFails}
-use Rattle.expression_types.specs.Passing.{seens}
+use Rattle.given_values.specs.declared.wants.Wanted.{Wanted}
+use Rattle.given_values.specs.GivenFaults.{TakeFails}
+use Rattle.given_values.specs.Passing.{seens}
 use Rattle.simple_statements.proofs.statements.return_fault.Goals as goal
 use Rattle.simple_statements.specs.SimpleStatements.{returns_view}
 use Rattle.simple_statements.proofs.LeastSimple.{return_least}

@@ -3,9 +3,10 @@ use Rattle.syntax.specs.Expressions.{exs_of}
 use Rattle.type_faults.specs.Least.{IsLeast}
 use Rattle.type_faults.proofs.Leasts.{least_join, leaf}
 use Rattle.names.specs.Scope.{scope_of}
-use Rattle.expression_types.specs.Typing.{Seen, many, seen}
-use Rattle.expression_types.specs.Faults.{ValuesFail}
-use Rattle.expression_types.specs.Passing.{seens}
+use Rattle.given_values.specs.Given.{Seen, many}
+use Rattle.expression_types.specs.Typing.{seen}
+use Rattle.given_values.specs.GivenFaults.{ValuesFail}
+use Rattle.given_values.specs.Passing.{seens}
 use Rattle.simple_statements.proofs.updating.check_refused.Goals as goal
 use Rattle.simple_statements.specs.SimpleFaults.{have_values, given_count}
 

@@ -4,7 +4,7 @@ use Rattle.typed_syntax.specs.Syntax.{Exs}
 use Rattle.typed.specs.View.{exs_of_values}
 use Rattle.syntax.specs.Statements.{ValueSpec}
 use Rattle.names.specs.Scope.{Scope}
-use Rattle.expression_types.specs.declared.gives.Item.{Item}
+use Rattle.given_values.specs.declared.gives.Item.{Item}
 use Rattle.syntax.specs.declared.expression.Name.{Name}
 use Rattle.base.specs.declared.value_type.ValueType.{ValueType}
 use Rattle.syntax.specs.Expressions.{exs_of}
@@ -14,11 +14,14 @@ use Rattle.type_faults.specs.Least.{IsLeast}
 use Rattle.type_faults.specs.Faults.{fault}
 use Rattle.type_faults.proofs.Leasts.{least_join}
 use Rattle.names.specs.Scope.{scope_of}
-use Rattle.expression_types.specs.declared.wants.Wanted.{Wanted}
-use Rattle.expression_types.specs.Typing.{Seen, wanted_before, spec_wanted, seen, taken, value_types}
-use Rattle.expression_types.specs.Faults.{TakeFails, FailsInEach}
+use Rattle.given_values.specs.declared.wants.Wanted.{Wanted}
+use Rattle.given_values.specs.Given.{Seen, wanted_before, taken, value_types}
+use Rattle.expression_types.specs.Typing.{spec_wanted, seen}
+use Rattle.given_values.specs.GivenFaults.{TakeFails}
+use Rattle.expression_types.specs.Faults.{FailsInEach}
 use Rattle.syntax.specs.declared.expression.Expr.{Expr}
-use Rattle.expression_types.specs.Passing.{seens, type_before}
+use Rattle.given_values.specs.Passing.{seens}
+use Rattle.expression_types.specs.Passing.{type_before}
 use Rattle.simple_statements.proofs.variables.check_values.Goals as goal
 
 pub returns-clause-fault : goal.returns-clause-fault

@@ -108,7 +108,7 @@ check_stmt-close-requires-in-For t c =
       (grows_clause c.args.text.now (scope_of c.args.scope.now) (clause_of c.in-For.clause)).depth,
       ap (λ (v : Scope). length v.blocks) c.in_ok-head-in-For.ensures.scope,
       ap length (keeps_block c.args.text.now (scope_of c.check_clause.new.scope) (stms_of c.deref-in-For.result.now)).blocks,
-      ap (λ (v : Scope). length v.blocks) c.in_ok-body-in-For.ensures.scope,
+      ap (λ (v : Scope). length v.blocks) c.in-Ok.ensures.scope,
     )
 
 pub check_inner-close-requires : goal.check_inner-close-requires
@@ -210,8 +210,8 @@ check_stmt-returns-in_ok-rest-in-If-clause-fault t c =
     (choice_least text rets looped s at g ms later head.fault body.fault rest.fault c.in_ok-head-in-If.ensures.fault b r) in
     if_ok _ (λ l. IsLeast (FailsInStatement text rets looped s (stm_of c.args.s.now)) l.fault) c.choice.result (λ l e. subst (λ f. IsLeast (FailsInStatement text rets looped s (stm_of c.args.s.now)) f) (sym e) whole) c.choice.ensures.fault
 
-pub check_stmt-returns-in_ok-body-in-For-clause-fault : goal.check_stmt-returns-in_ok-body-in-For-clause-fault
-check_stmt-returns-in_ok-body-in-For-clause-fault t c =
+pub check_stmt-returns-in-Ok-clause-fault : goal.check_stmt-returns-in-Ok-clause-fault
+check_stmt-returns-in-Ok-clause-fault t c =
     let text = c.args.text.now in
     let rets = returns_view c.args.returns.now in
     let looped = c.args.looped in
@@ -221,12 +221,12 @@ check_stmt-returns-in_ok-body-in-For-clause-fault t c =
     let h = clause_scope text s clause in
     let ms = stms_of c.in-For.body.items in
     let head = c.in_ok-head-in-For.head in
-    let body = c.in_ok-body-in-For.body in
+    let body = c.in-Ok.body in
     let shape : stm_of c.args.s.now ≡ for_stmt at clause ms = grind (arith, stmt_rows) in
     let h_is : scope_of c.check_clause.new.scope ≡ h = c.in_ok-head-in-For.ensures.scope in
     let b : IsLeast (FailsInStatements text rets true (opened h) ms) body.fault =
     subst (λ (v : Scope). IsLeast (FailsInStatements text rets true (opened v) ms) body.fault) h_is
-    (subst (λ (l : List Stmt). IsLeast (FailsInStatements text rets true (opened (scope_of c.check_clause.new.scope)) (stms_of l)) body.fault) c.deref-in-For.ensures.value c.in_ok-body-in-For.ensures.fault) in
+    (subst (λ (l : List Stmt). IsLeast (FailsInStatements text rets true (opened (scope_of c.check_clause.new.scope)) (stms_of l)) body.fault) c.deref-in-For.ensures.value c.in-Ok.ensures.fault) in
     let whole : IsLeast (FailsInStatement text rets looped s (stm_of c.args.s.now)) (lesser head.fault body.fault) =
     subst (λ (x : Stm). IsLeast (FailsInStatement text rets looped s x) (lesser head.fault body.fault)) (sym shape)
     (loop_least text rets looped s at clause ms head.fault body.fault c.in_ok-head-in-For.ensures.fault b) in

@@ -17,7 +17,7 @@ use Rattle.signatures.specs.EntryFaults.{EntriesFail}
 use Rattle.signatures.specs.Signatures.{params_of, is_named}
 use Rattle.function_heads.specs.HeadTypes.{slot_of, slots_of}
 use Rattle.signatures.proofs.Growth.{grows_entries}
-use Rattle.expression_types.specs.Typing.{wanted_by}
+use Rattle.given_values.specs.Given.{wanted_by}
 use Rattle.simple_statements.specs.SimpleStatements.{Returns, returns_view}
 use Rattle.types_go.specs.Statements.{statements, behind_all}
 use Rattle.types_go.specs.StatementFaults.{FailsInStatements}

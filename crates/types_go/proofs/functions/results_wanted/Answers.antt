@@ -2,7 +2,7 @@ use Rattle.std.proofs.Common.{◌≡◌, List, Option, map, ap, ◌∙◌}
 use Rattle.base.specs.declared.value_type.ValueType.{ValueType}
 use Rattle.typed.proofs.Lists.{map_map}
 use Rattle.type_faults.proofs.Leasts.{if_ok}
-use Rattle.expression_types.specs.Typing.{wanted_by}
+use Rattle.given_values.specs.Given.{wanted_by}
 use Rattle.signatures.specs.declared.slots.Slot.{Slot}
 use Rattle.types_go.proofs.functions.results_wanted.Goals as goal
 

@@ -24,4 +24,4 @@ returns-in-Counting-clause-fault c =
     c.check_counting.ensures.fault)
 
 pub returns-in-Range-clause-fault : goal.returns-in-Range-clause-fault
-returns-in-Range-clause-fault c = rw (c.in-Range.is) c.check_range.ensures.fault
+returns-in-Range-clause-fault c = rw (c.in-Range.is) c.check_ranging.ensures.fault

@@ -1,8 +1,0 @@
-use Rattle.std.proofs.Common.{◌≡◌, drop}
-use Rattle.std.specs.Prelude.{◌&&◌}
-use Rattle.expression_types.specs.Typing.{are_single}
-use Rattle.expression_types.specs.Passing.{seens}
-use Rattle.expression_types.proofs.values.are_single.Given as goal
-
-abbrev pub invariant-loop-item : goal.invariant-loop-item
-invariant-loop-item l = are_single (seens l.items) ≡ (l.all && are_single (seens (drop l.item-index l.items)))

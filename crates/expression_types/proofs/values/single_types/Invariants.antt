@@ -1,9 +1,0 @@
-use Rattle.std.proofs.Common.{◌≡◌, drop}
-use Rattle.std.specs.Option.{option_map}
-use Rattle.expression_types.specs.Typing.{single_types}
-use Rattle.expression_types.specs.Passing.{seens}
-use Rattle.type_faults.proofs.Lists.{joined}
-use Rattle.expression_types.proofs.values.single_types.Given as goal
-
-abbrev pub invariant-loop-item : goal.invariant-loop-item
-invariant-loop-item l = single_types (seens l.items) ≡ joined (option_map (λ v. v.items) l.types) (single_types (seens (drop l.item-index l.items)))

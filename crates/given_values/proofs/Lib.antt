@@ -1,0 +1,6 @@
+pub mod Items
+pub mod Places
+pub mod DecidedValues
+pub mod DecidedCalls
+pub mod HeldCalls
+pub mod ValuesFit

@@ -1,0 +1,8 @@
+use Rattle.std.proofs.Common.{◌≡◌, drop}
+use Rattle.std.specs.Prelude.{◌&&◌}
+use Rattle.given_values.specs.Given.{are_shown}
+use Rattle.given_values.specs.Passing.{seens}
+use Rattle.given_values.proofs.values.are_shown.Given as goal
+
+abbrev pub invariant-loop-item : goal.invariant-loop-item
+invariant-loop-item l = are_shown (seens l.items) ≡ (l.all && are_shown (seens (drop l.item-index l.items)))
