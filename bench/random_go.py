@@ -71,7 +71,7 @@ class Program:
         self.random = random.Random(f"{seed}/{number}")
         self.small = small
         self.structs, self.kinds, self.lengths = {}, [], {}
-        self.safe, self.heading, self.inside = False, False, 0
+        self.safe, self.heading, self.inside, self.still, self.eager, self.in_body = False, False, 0, False, False, False
         self.names = {}
         self.blocks = [self.names]
         self.reads, self.risky = set(), False
@@ -112,6 +112,18 @@ class Program:
     def holds(self, kind, part):
         return kind == part or any(self.holds(it, part) for _, it in self.parts(kind))
 
+    def kinds_in(self, kind):
+        """A kind and those of its parts."""
+        return {kind}.union(*(self.kinds_in(it) for _, it in self.parts(kind)))
+
+    def array_kind(self):
+        """The kind of an array: of one that a name here stands for or has in it, or of any that a literal may have."""
+        kinds = {it.kind for block in self.blocks for it in block.values() if isinstance(it, Variable)}
+        found = [it for kind in sorted(kinds) for it in sorted(self.kinds_in(kind)) if it[0] == "["]
+        if not found or self.chance(0.1):
+            return f"[{self.random.randrange(1, 5)}]{self.one(SCALARS + self.kinds)}"
+        return self.one(found)
+
     def scalars_of(self, text, kind):
         """The texts of all ints and bools in a value."""
         if kind in SCALARS:
@@ -149,6 +161,32 @@ class Program:
             ways.append(digits[:-3] + "_" + digits[-3:])
         return self.one(ways)
 
+    # Arrays that aren't worked out.
+
+    def not_run(self, make):
+        """What is made for a place that isn't run: no call may stand there, and it neither reads nor panics."""
+        before = self.still, set(self.reads), self.risky, self.loud, self.safe
+        self.still, self.safe = True, False
+        try:
+            return make()
+        finally:
+            self.still, self.reads, self.risky, self.loud, self.safe = before
+
+    def length(self, of=None, depth=1):
+        """The length of an array, of which a text and the length are given, or of any; nothing where none may stand here."""
+        ways = [it for it in ("len", "len", "cap") if not self.sees(it)]
+        if not ways or not self.in_body or self.still and self.chance(0.5):
+            return None
+        if of is None:
+            kind, heading, uses = self.array_kind(), self.heading, self.uses()
+            self.heading = False
+            of = self.not_run(lambda: self.value(kind, depth)).text, self.array(kind)[0]
+            self.heading = heading
+            self.use_again(uses)  # a constant may be dropped
+        name = self.one(ways)
+        name = f"({name})" if self.chance(0.03) else name
+        return Value(f"{name}({of[0]})", 9, of[1], True)
+
     # Constants, worked out exactly.
 
     def constant(self, kind, depth=3, names=True):
@@ -165,6 +203,9 @@ class Program:
         if names and named and self.chance(0.3):
             name, it = self.one(named)
             return Value(name, 9, it.constant, it.typed)
+        it = self.length() if kind == "int" and self.chance(0.15) else None
+        if it:
+            return it
         if depth == 0 or self.chance(0.1):
             if kind == "bool":
                 value = self.chance(0.5)
@@ -279,6 +320,9 @@ class Program:
         return self.joined(op, left, right)
 
     def divisor(self, depth):
+        it = self.length() if self.chance(0.06) else None
+        if it:
+            return it
         roll = self.random.random()
         if roll < 0.4:
             value = self.one([1, 2, 3, 7, 10, MOST, self.random.randrange(1, 2**40)])
@@ -292,6 +336,9 @@ class Program:
         return it if it.constant is None else Value("1", 9, 1)
 
     def count(self, depth):
+        it = self.length() if self.chance(0.06) else None
+        if it:
+            return it
         roll = self.random.random()
         if roll < 0.4:
             value = self.one([0, 1, 2, 31, 62, 63, 64, 65, 200, 1000, MOST])
@@ -315,6 +362,9 @@ class Program:
         found = self.place(kind) if self.chance(0.75) else None
         if found:
             return Value(found[0], 9)
+        it = self.length() if kind == "int" and self.chance(0.2) else None
+        if it:
+            return it
         for _ in range(5):
             it = self.constant(kind, 2)
             if isinstance(it.constant, bool) or LEAST <= it.constant <= MOST:
@@ -345,7 +395,7 @@ class Program:
             if text.endswith("]"):
                 before, index = text.rsplit("[", 1)
                 length = len(self.parts(self.kind_of(variable.kind, before[len(name):])))
-                text = f"{before}[{self.index(int(index[:-1]), length)}]"
+                text = f"{before}[{self.index(int(index[:-1]), length, before)}]"
         return text, name
 
     def kind_of(self, kind, behind):
@@ -363,18 +413,26 @@ class Program:
                 kind, behind = self.array(kind)[1], behind[end + 1:]
         return kind
 
-    def index(self, number, length):
+    def index(self, number, length, array):
         """An index of an array: this number, or an int of which some bits may count, or one that may be out of range."""
+        if self.chance(0.1):
+            own = (array, length) if self.chance(0.7) and "(" not in array else None
+            it = self.length(own, 0) if own or self.inside < 2 else None
+            if it:
+                away, space = number - it.constant, self.one(["", " "])
+                return it.text + (f"{space}{'-+'[away > 0]}{space}{abs(away)}" if away else "")
         roll = self.random.random()
         if roll < 0.5 or self.times > 200 or self.inside > 1:
             return self.number(number)
         before = self.uses()
         self.inside += 1
-        it = self.value("int", 1)
+        it = self.eager and self.chance(0.5) and self.call(["int"], 0) or self.value("int", 1)
         self.inside -= 1
         if it.constant is not None:
             self.use_again(before)
             return self.number(number)
+        if self.still and self.chance(0.6):
+            return it.text
         if roll < 0.96 or self.safe:
             mask = max(2**bits - 1 for bits in range(4) if 2**bits <= length)
             return self.joined("&", it, Value(self.number(mask), 9, mask)).text
@@ -393,7 +451,8 @@ class Program:
         if found:
             return Value(found[0], 9)
         text = self.literal(kind, depth)
-        return Value(f"({text})" if self.heading or self.chance(0.05) else text, 9)
+        closed = self.heading and (kind in self.structs or self.chance(0.3))
+        return Value(f"({text})" if closed or self.chance(0.05) else text, 9)
 
     def literal(self, kind, depth, bare=False):
         begin = "" if bare else kind if kind in self.structs else self.spelled(kind)
@@ -435,6 +494,8 @@ class Program:
 
     def call(self, results, depth):
         """A call that gives these kinds, where one may stand here: its effects may not come before what stands to its left."""
+        if self.still:
+            return None
         fitting = [it for it in self.functions + ([self.own] if self.own else []) if [kind for _, kind in it.results] == results]
         fitting = [it for it in fitting if self.sees(it.name) is it and self.cost + self.times * (it.cost + 5) <= 4000]
         if self.times > 1 or self.calls_left <= 0 or not self.may_recur:
@@ -507,7 +568,9 @@ class Program:
         self.cost += self.times
         ways = [self.declares] * 3 + [self.assigns] * 5 + [self.updates] * 3 + [self.prints] * 2 + [self.calls] * 2
         if depth > 0:
-            ways += [self.chooses] * 3 + [self.block] + ([self.counts, self.ranges, self.waits] if self.times < 30 else [])
+            ways += [self.chooses] * 3 + [self.block]
+        if depth > 0 and self.times < 30:
+            ways += [self.counts, self.ranges, self.waits] + [self.goes_over] * 3
         if self.chance(0.05):
             ways = [self.ends]
         used = self.uses()
@@ -698,12 +761,19 @@ class Program:
         rounds, name, up = self.random.randrange(5), self.one(NAMES[:11]), self.chance(0.6)
         steps = ["%s++", "%s += 1", "%s += 2"] if up else ["%s--", "%s -= 1", "%s, _ = %s-1, 0"]
         step = self.one(steps).replace("%s", name)
-        begin, test = (f"{name} := 0", f"{name} < {rounds}") if up else (f"{name} := {rounds}", f"{name} > 0")
         names = {name: Variable("int", fixed=True)}
+        self.blocks += [names] if up else []
+        it = self.length() if self.chance(0.4) else None
+        rounds, limit = (it.constant, it.text) if it else (rounds, str(rounds))
+        names[name].used = False
+        self.blocks = self.blocks[:-1] if up else self.blocks
+        begin, test = (f"{name} := 0", f"{name} < {limit}") if up else (f"{name} := {limit}", f"{name} > 0")
         if self.chance(0.3):
             self.blocks.append(names)
             self.times *= rounds + 1
-            test += f" && {self.in_header('bool', 2).text}" if self.chance(0.5) else ""
+            if self.chance(0.5):
+                it = self.in_header("bool", 2)
+                test += f" && {it.text}" if it.level > 1 else f" && ({it.text})"
             self.times //= rounds + 1
             self.blocks.pop()
         more = ["\t" * (self.indent + 1) + name + ("++" if up else "--")] if self.chance(0.2) else []
@@ -736,6 +806,77 @@ class Program:
         lines = ["\t" * self.indent + f"for {left}range {limit.text} {{"] + self.loop(depth, 4, names)
         lines[1:1] = ["\t" * (self.indent + 1) + f"_ = {name}" for name, it in names.items() if not it.used]
         return lines + self.line("}")
+
+    def goes_over(self, depth):
+        """A `range` over an array, which is worked out where its elements are wanted."""
+        kind, first = self.array_kind(), []
+        length, element = self.array(kind)
+        name, both = self.one(NAMES[:11]), self.chance(0.65)
+        if name not in self.blocks[-1] and self.chance(0.4):
+            first = self.line(f"{name} := {self.literal(kind, 2)}")
+            self.blocks[-1][name] = Variable(kind)
+            self.statement_begins()
+        whole = self.gone_over(kind) if both else self.not_run(lambda: self.gone_over(kind))
+        self.statement_begins()
+        if self.chance(0.65):
+            left, names = self.new_sides(element, both)
+        else:
+            left, names = self.old_sides(element, both, length), {}
+        lines = ["\t" * self.indent + f"for {left}range {whole.text} {{"]
+        lines += self.loop(depth, length, names, self.writes_back(whole.text, kind, names, both))
+        lines[1:1] = ["\t" * (self.indent + 1) + f"_ = {name}" for name, it in names.items() if not it.used]
+        return first + lines + self.line("}")
+
+    def gone_over(self, kind):
+        """The array of a `range`: more often than elsewhere a variable, a part of one, or what comes of a call."""
+        roll = self.random.random()
+        found = self.place(kind) if roll < 0.5 else None
+        if found:
+            return Value(found[0], 9)
+        called = roll > 0.7 and (self.call([kind], 1) or self.field_of_call(kind, 1))
+        return called or self.in_header(kind, 2)
+
+    def new_sides(self, element, both):
+        """New variables on the left of a `range` over an array, and what they are; the first one is that of the index."""
+        if not both and self.chance(0.25):
+            return "", {}
+        first, second = self.random.sample(NAMES[:11], 2)
+        if not both:
+            return self.one([f"{first} := ", f"{first} := ", f"{first}, _ := "]), {first: Variable("int")}
+        if self.chance(0.3):
+            return f"_, {second} := ", {second: Variable(element)}
+        return f"{first}, {second} := ", {first: Variable("int"), second: Variable(element)}
+
+    def old_sides(self, element, both, length):
+        """Variables and parts of them on the left of a `range` over an array; their indices are worked out each time."""
+        times, self.times, self.eager = self.times, self.times * length, True
+        sides = []
+        for kind in ["int", element][: 1 + both]:
+            found = self.place(kind, to_write=True) if self.chance(0.85) else None
+            sides.append(found[0] if found else "_")
+            self.safe = self.risky
+        self.times, self.safe, self.eager = times, False, False
+        if both and sides[1] == "_":
+            raise Refused  # the array isn't worked out then
+        return ", ".join(sides) + ("" if both or self.chance(0.7) else ", _") + " = "
+
+    def writes_back(self, text, kind, names, both):
+        """Lines for the body of a `range` over an array, which may change the array that it goes over."""
+        root, (length, element) = re.match(r"\w*", text)[0], self.array(kind)
+        it = self.sees(root)
+        if not re.fullmatch(r"\w+(\.\w+|\[\d+\])*", text) or self.chance(0.5) or root in names or len(names) < 2:
+            return []
+        if not isinstance(it, Variable) or it.fixed:
+            return []
+        if it.package and self.writes is not ALL:
+            self.writes = self.writes | {root}
+        index, value = names
+        ways = [f"{text}[{length - 1} - {index}] = {value}", f"{text}[{index}] = {value}"]
+        ways += [f"{text}[{length - 1}-{index}] += {value}", f"{text}[0] = {index}", f"{value}++"] if element == "int" else []
+        way = self.one(ways)
+        for name, variable in names.items():
+            variable.used = name in re.findall(r"(?<![.\w])\w+", way)
+        return ["\t" * (self.indent + 1) + way]
 
     def waits(self, depth):
         """A loop by a condition, or without one; its counter falls as a round begins."""
@@ -826,6 +967,7 @@ class Program:
     def types(self):
         """Structs, of which each may hold those before it, the kinds of variables, and names of lengths."""
         if self.chance(0.2):
+            self.kinds = [f"[{self.random.randrange(1, 5)}]{self.scalar()}"] * self.random.randrange(2)
             return []
         self.lengths = {"L2": 2, "L3": 3} if self.chance(0.5) else {}
         groups = [["const L3 = L2 + 1"], ["const L2 int = 2"]] if self.lengths else []
@@ -890,6 +1032,7 @@ class Program:
 
     def whole(self):
         groups = self.package()
+        self.in_body = True
         count = self.random.randrange(2, 3 if self.small else 6)
         for index in range(count):
             groups.append(self.function(index))
@@ -934,7 +1077,7 @@ KEYWORDS = "break const continue else for func if package range return struct ty
 WORDS = [
     "int", "bool", "true", "nil", "_", "println", "panic", "main", "0", "1", "-1", "u", "9223372036854775808", '"s"', "C0", "v0",
     "f0", "f1", "entry0", "f0()", "f1(1)", "1 << 64", "x", "a", "readInt()", "1 == 1", "given", "good", "depth", "T0", "T1",
-    "T0{}", "[2]int", "[2]T0{}", "v0.a", "v0[1]", "L2",
+    "T0{}", "[2]int", "[2]T0{}", "v0.a", "v0[1]", "L2", "len", "cap", "len(a)", "cap(v0)", "len([2]T0{})", "[3]int{given}",
 ]
 STATEMENTS = [
     "break", "continue", "return", "return 1", "return true, 2", "x := 1", "var x int", "var x, y bool = true, 1", "x = 1",
@@ -954,6 +1097,44 @@ STATEMENTS = [
     "var a [2]int; _ = a == nil", "_ = -T0{}", "var p T0; p++", "var p T0; p += p", "var a [2]T0; a[1].a = 1",
     "var a [2]T0; a[1] = T0{}; a[0], a[1] = a[1], a[0]", "return T0{}", "f0(T0{})", "f0([2]int{})",
 ]
+# Statements with arrays, for the place in the last function below, which declares what they name.
+OVER_ARRAYS = [
+    "for range m { }", "for i := range m { i = m[i][0] }", "for i, v := range m { v[i] = i }", "for _, v := range m { v = m[0] }",
+    "for i, v := range m { v = i }", "for i, v = range m { }", "for i, v := range i { v = i }", "for i, m[0] = range m { }",
+    "for i, m[0][i] = range m[1] { }", "for i, p.b = range m { }", "for p.a, p.b[0] = range p.b { }", "for b, i = range m[0] { }",
+    "for i, b = range m[0] { }", "for i, b = range [2]bool{b} { }", "for i, p = range [2]S{p, {}} { }", "for _ = range m { }",
+    "for _, _ = range m { }", "for _, _ := range m { }", "for _ := range m { }", "for i, _ := range m { println(i) }",
+    "for _, i = range m[i] { }", "for i, i := range m { }", "for i, j, k := range m { }", "for i, j, _ = range m { }",
+    "for 1 = range m { }", "for i, f = range m { }", "for i, z = range m { }", "for range p { }", "for range p.b { }",
+    "for i := range b { }", "for range nil { }", "for range int { }", "for range S{} { }", "for range (S{}).b { }",
+    "for range [2]S{{}, {1, [2]int{}}} { }", "for _, q := range [2]S{{a: 1}, {}} { println(q.a) }", "for range [2]S{S{}} { }",
+    "for _, v := range g() { println(v) }", "for _, v := range g().b { println(v) }", "for _, i = range g().b { }",
+    "for i, v := range g { println(i, v) }", "for i, v := range m[2] { println(i, v) }",
+    "for i, v := range m[-1] { println(i, v) }", "for _, v := range m[i] { m[i] = v }", "for _, v := range m[i] { m[i][v]++ }",
+    "for i := range m[i] { println(i) }; println(v)", "for _, m := range m { for _, m := range m { println(m) } }",
+    "for m, p := range m { println(m, p[0]) }", "for i := range m { continue; i = 1 }",
+    "for _, v := range m { if v == m[0] { break } }", "for i := range m { return }", "for i := range len(m) { println(i) }",
+    "for i, v := range len(m) { }", "for i = range cap(m[0]) { }", "for b = range len(m) { }", "i = len(m)", "i = len(m[i])",
+    "i = len(m[2])", "i = len(m[len(m)])", "i = len(m[len(m)-1])", "i = m[len(m)-1][cap(m[0])-1]", "i = m[0][len(m)]",
+    "i = len(p)", "i = len(p.b)", "i = cap(i)", "i = len(b)", "i = len(nil)", "i = len()", "i = len(m, m)", "i = len(m...)",
+    "i = len", "i = len(S)", "i = len(S{}.b)", "i = cap([2]S{})", "i = cap([2]S{{i, [2]int{}}})", "i = (len)(m)", "i = len(z)",
+    "i = len(m[b])", "b = len(m)", "b = len(m) == 2", "b = len(m) == b", "b = len(m) < 1 << 70", "i = len(m) << 62",
+    "i = len(m) << i", "i = 1 << len(m)", "i = 1 << 70 >> (len(m) * 40)", "i = i << len(m)", "i <<= len(m) - 3",
+    "i /= len(m) - 2", "i = 7 % (len(m) - cap(p.b))", "i = -len(m)", "b = !len(m)", "len(m)", "len(m) = 3", "len = 3",
+    "len := len(m); i = len", "var len = cap(m); i = len(m)", "cap, len := len(m), cap(m); i = cap + len", "len(m)++",
+    "println(len(m), cap(p.b), \"s\")", "println(len)", "panic(len(m))", "return len(m)", "for i < len(m) { i++ }",
+    "if len(m) { }", "if len(m) == len(S{}.b) { }", "if len([2]S{}) == 2 { }", "p = S{len(m), [2]int{cap(m)}}",
+    "p = S{b: len(m)}", "p = S{a: len(p.b)}", "m = [2][2]int{{len(m)}}", "m[len(m)-2] = p.b", "m[len(m)*4] = p.b", "f(len(m))",
+    "f(len(m), b)", "len(f)", "i = f(len(m), b) + len(m).a", "i = len(m)[0]", "var w [2]int; for i := range w { w[i] = len(w) }",
+    "for i := range m { var i = i == 1; b = i }", "m.len()", "i = int(len(m))",
+]
+ARRAYS_HERE = """
+type S struct { a int; b [2]int }
+func f(i int, b bool) int { return i }
+func g() S { return S{} }
+func h(i int, b bool) int { var m [2][2]int; var p S; %s; i, b, m, p = i, b, m, p; return i }
+"""
+
 HEADS = [
     "const C0 = 1", "var v0 bool", "func f0() int { }", "func f9() int { for { } }", "func f9() int { for { break } }",
     "const P, Q = Q, 1", "const P = P", "const P = v0", "var P = C0 << 70", "var P bool = 1",
@@ -976,15 +1157,38 @@ HEADS = [
     "type P [2]int", "type P int", "type P = int", "func f9() [2]int { return [2]int{} }",
     "func f9() [2]int { return [...]int{1, 2} }", "func f9() (p, q T0) { return q, p }",
     "func f9(a [2]int) int { return len(a) }", "func f9(a [2]int) { for i, x := range a { println(i, x) } }",
-    "func f9(p *T0) { }", "func f9(p []T0) { }", "func f9(a [2]zz) { }", "type T9 struct { T0 }", "type T9 struct { a, a int }",
+    "func f9(a [2]int) (i int) { for i = range a { return }; return }", "func f9(a [2]int) int { for i := range a { return i } }",
+    "func f9(a [2][3]int) (b [3]int, i int) { for i, b = range a { }; return }", "func f9(len [2]int) int { return len(len) }",
+    "func f9(a [2]int) (len, cap int) { len, cap = 1, 2; return }", "func f9(a [2]int) { for a := range a { println(a) } }",
+    "func f9() { for _, x := range P { println(x) } }; var P [2]int", "func f9() int { return len(P) }; var P [2]T0",
+    "func len(a [2]int) int { return a[0] }", "var cap [2]int", "const len = 2", "func f9(a [2]int) int { return len(f9) }",
+    "func f9(a [2]int) int { for range a { }; for { } }", "func f9(a [2]int) bool { return len(a) }", "func f9(p *T0) { }",
+    "func f9(p []T0) { }", "func f9(a [2]zz) { }", "type T9 struct { T0 }", "type T9 struct { a, a int }",
     "type T9 struct { _ int }", "type T9 struct { a [9]T7 }", "type main struct { a int }",
 ]
+
+
+def with_arrays(text, chosen):
+    """The text with a function in which one or two statements go over arrays or take lengths; mostly one word is another."""
+    tokens = TOKEN.findall("; ".join(chosen.sample(OVER_ARRAYS, chosen.choice([1, 1, 2]))))
+    words = "i b m p f g z S _ len cap 0 1 2 true int [2]int{} S{} m[0] m[i] p.a p.b g() g().b f(1,b) len(m) cap(p.b)".split()
+    places = [index for index, it in enumerate(tokens) if re.match(r"\w", it) and it not in KEYWORDS]
+    way = chosen.random()
+    if way < 0.6 and places:
+        index = chosen.choice(places)
+        word = tokens[index]
+        tokens[index] = chosen.choice(words + [f"({word})", f"len({word})", f"{word}[0]", f"{word}.b", f"{word}()"])
+    elif way < 0.7:
+        tokens[chosen.randrange(len(tokens))] = chosen.choice(OPERATORS + KEYWORDS + [""])
+    return text + ARRAYS_HERE.replace("%s", "".join(tokens))
 
 
 def changed(text, chosen):
     """The text with one small change."""
     lines = text.split("\n")
-    way = chosen.randrange(20)
+    way = chosen.randrange(23)
+    if way > 19:
+        return with_arrays(text, chosen)
     if way < 7:
         inside = [number for number, line in enumerate(lines) if line.startswith("\t")]
         plain = [number for number, line in enumerate(lines) if number > 1 and not re.search("[{}]", line)]
