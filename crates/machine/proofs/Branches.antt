@@ -13,7 +13,7 @@ use Rattle.isa.specs.declared.instr.BinOp.{BinOp}
 use Rattle.isa.specs.declared.instr.Instr.{Instr}
 use Rattle.isa.specs.declared.instr.Instr.TheVariants.{Const, Move, MoveWords, Bin, Jump, JumpZero, Call, ArgumentWords, SetResults, Load, Store, Return, Alloc, Make, Append}
 use Rattle.isa.specs.declared.func.Func.{Func}
-use Rattle.machine.specs.Machine.{State, Does, frame_in, frame_of, slot, spot_of, put_words, words_at, words_in, put_at, header, is_nowhere, most_elements, are_sizes, allocates, makes, grown, renews, adds_in_place, adds_in_new, adds, appends_slots, appends_slice, appends_to, appends, copies, lesser, puts_words, next_address}
+use Rattle.machine.specs.Machine.{Range, State, Does, frame_in, frame_of, slot, spot_of, put_words, words_at, words_in, put_at, header, is_nowhere, most_elements, are_sizes, allocates, makes, grown, renews, adds_in_place, adds_in_new, adds, appends_slots, appends_slice, appends_to, appends, copies, lesser, puts_words, next_address}
 use Rattle.machine.specs.Inside.{HasRoom, IsRare}
 use Rattle.machine.specs.Answers.{Comes, NeedsMemory, NoRoom}
 use Rattle.machine.specs.declared.run_state.RunState.{RunState}
@@ -35,34 +35,34 @@ pub made : (s new : State) (a w long capacity l k : ℕ) (x : Option Ending) →
 made s new a w long capacity l k x el ek small good c =
     rw (← el, ← ek) (then_comes (nat_le l most_elements) _ _ new x (le-leb l most_elements small) (then_comes (are_sizes l k) _ _ new x good c))
 
-pub copied_by : (max : ℕ) (s new : State) (a w b c to from count : ℕ) (x : Option Ending) → to ≡ slot s b → from ≡ slot s c → count ≡ lesser (slot s (b + 1)) (slot s (c + 1)) → Comes (copies max s a to from count w) new x
-    → Comes (copies max s a (slot s b) (slot s c) (lesser (slot s (b + 1)) (slot s (c + 1))) w) new x
-copied_by max s new a w b c to from count x et ef ec comes = rw (← et, ← ef, ← ec) comes
+pub copied_by : (s new : State) (a w b c to from count : ℕ) (x : Option Ending) → to ≡ slot s b → from ≡ slot s c → count ≡ lesser (slot s (b + 1)) (slot s (c + 1)) → Comes (copies s a to from count w) new x
+    → Comes (copies s a (slot s b) (slot s c) (lesser (slot s (b + 1)) (slot s (c + 1))) w) new x
+copied_by s new a w b c to from count x et ef ec comes = rw (← et, ← ef, ← ec) comes
 
-module _ (max : ℕ) (s new : State) (a first long capacity w : ℕ) (x : Option Ending) where
-  pub added_in_place : (count : ℕ) (source : Spot) → long + count ≤ capacity → Comes (adds_in_place max s a first long capacity count w source) new x → Comes (adds max s a first long capacity count w source) new x
+module _ (s new : State) (a first long capacity w : ℕ) (x : Option Ending) where
+  pub added_in_place : (count : ℕ) (source : Spot) → long + count ≤ capacity → Comes (adds_in_place s a first long capacity count w source) new x → Comes (adds s a first long capacity count w source) new x
   added_in_place count source fits c = then_comes (nat_le (long + count) capacity) _ _ new x (le-leb (long + count) capacity fits) c
 
-  pub added_in_new : (count room : ℕ) (source : Spot) → capacity < long + count → room ≡ grown (long + count) capacity → Comes (adds_in_new max s a first long room count w source) new x
-      → Comes (adds max s a first long capacity count w source) new x
+  pub added_in_new : (count room : ℕ) (source : Spot) → capacity < long + count → room ≡ grown (long + count) capacity → Comes (adds_in_new s a first long room count w source) new x
+      → Comes (adds s a first long capacity count w source) new x
   added_in_new count room source outgrown is c =
       else_comes (nat_le (long + count) capacity) _ _ new x (lt-leb (long + count) capacity outgrown) (rw (← is) c)
 
-  pub appended_slots : (c d : ℕ) → (d == 0) ≡ false → Comes (adds max s a first long capacity d w (InStack c)) new x → Comes (appends_slots max s a first long capacity c d w) new x
+  pub appended_slots : (c d : ℕ) → (d == 0) ≡ false → Comes (adds s a first long capacity d w (InStack c)) new x → Comes (appends_slots s a first long capacity c d w) new x
   appended_slots c d some comes = else_comes (d == 0) _ _ new x some comes
 
-  pub appended_slice : (from count : ℕ) (source : Spot) → count ≤ most_elements → (count == 0) ≡ false → source ≡ spot_of max s.heap.words s.words from (count * w) → is_nowhere source ≡ false
-      → Comes (adds max s a first long capacity count w source) new x → Comes (appends_slice max s a first long capacity from count w) new x
+  pub appended_slice : (from count : ℕ) (source : Spot) → count ≤ most_elements → (count == 0) ≡ false → source ≡ spot_of s.range.hi s.heap.words s.words from (count * w) → is_nowhere source ≡ false
+      → Comes (adds s a first long capacity count w source) new x → Comes (appends_slice s a first long capacity from count w) new x
   appended_slice from count source few some is somewhere c =
       then_comes (nat_le count most_elements) _ _ new x (le-leb count most_elements few)
       (else_comes (count == 0) _ _ new x some
       (rw (← is) (else_comes (is_nowhere source) _ _ new x somewhere c)))
 
   module _ (b c d : ℕ) (is_first : first ≡ slot s b) (is_long : long ≡ slot s (b + 1)) (is_capacity : capacity ≡ slot s (b + 2)) (good : are_sizes long capacity ≡ true) where
-    pub appended : (added : Added) → Comes (appends_to max s added a first long capacity c d w) new x → Comes (appends max s added a b c d w) new x
+    pub appended : (added : Added) → Comes (appends_to s added a first long capacity c d w) new x → Comes (appends s added a b c d w) new x
     appended added comes = rw (← is_first, ← is_long, ← is_capacity) (then_comes (are_sizes long capacity) _ _ new x good comes)
 
-    pub appended_of : (from count : ℕ) → from ≡ slot s c → count ≡ slot s (c + 1) → Comes (appends_slice max s a first long capacity from count w) new x → Comes (appends max s OfSlice a b c d w) new x
+    pub appended_of : (from count : ℕ) → from ≡ slot s c → count ≡ slot s (c + 1) → Comes (appends_slice s a first long capacity from count w) new x → Comes (appends s OfSlice a b c d w) new x
     appended_of from count is_from is_count comes = appended OfSlice (rw (← is_from, ← is_count) comes)
 
 -- elements that are added have room behind the old ones
@@ -81,15 +81,15 @@ kept_words (InStack i) old new stack long base n room kept = refl
 kept_words Nowhere old new stack long base n room kept = refl
 
 -- added elements are put into a new array, and its header into slots
-pub put_in_new : (max pc reads : ℕ) (stack stack' : List ℕ) (heap renewed heap' : Words) (a first long capacity count w at behind long_stack base : ℕ) (source : Spot)
-    → ((does : State → Does) → renews max (record { pc = pc; words = stack; reads = reads; heap = heap }) first long capacity w does ≡ does (record { pc = pc; words = stack; reads = reads; heap = renewed }))
+pub put_in_new : (range : Range) (pc reads : ℕ) (stack stack' : List ℕ) (heap renewed heap' : Words) (a first long capacity count w at behind long_stack base : ℕ) (source : Spot)
+    → ((does : State → Does) → renews (record { pc = pc; range = range; words = stack; reads = reads; heap = heap }) first long capacity w does ≡ does (record { pc = pc; range = range; words = stack; reads = reads; heap = renewed }))
     → at ≡ first_address + length heap.words → behind ≡ length heap.words + long * w → HasRoom heap.words long_stack base (count * w) source → take (length heap.words) renewed.words ≡ heap.words
     → heap' ≡ record renewed { words = put_words renewed.words behind (words_in source renewed.words stack (count * w)) }
     → stack' ≡ put_words stack a (header at (long + count) capacity)
-    → (let s : State = record { pc = pc; words = stack; reads = reads; heap = heap } in adds_in_new max s a first long capacity count w source) ≡ Goes [] (record { pc = pc + 1; words = stack'; reads = reads; heap = heap' })
-put_in_new max pc reads stack stack' heap renewed heap' a first long capacity count w at behind long_stack base source renews_by is_at is_behind room kept is_heap is_stack =
+    → (let s : State = record { pc = pc; range = range; words = stack; reads = reads; heap = heap } in adds_in_new s a first long capacity count w source) ≡ Goes [] (record { pc = pc + 1; range = range; words = stack'; reads = reads; heap = heap' })
+put_in_new range pc reads stack stack' heap renewed heap' a first long capacity count w at behind long_stack base source renews_by is_at is_behind room kept is_heap is_stack =
     let same = kept_words source heap.words renewed.words stack long_stack base (count * w) room kept in
-    let s : State = record { pc = pc; words = stack; reads = reads; heap = heap } in
+    let s : State = record { pc = pc; range = range; words = stack; reads = reads; heap = heap } in
     let rest : State → Does =
     λ t. puts_words (put_at (InHeap (length heap.words + long * w)) t (words_in source heap.words stack (count * w))) a (header (next_address s) (long + count) capacity) in
     renews_by rest ∙ rw (is_heap, is_stack, is_at, is_behind, same) refl

@@ -13,7 +13,7 @@ use Rattle.isa.specs.declared.instr.Added.TheVariants.{Slots, Slice as OfSlice}
 use Rattle.isa.specs.declared.instr.Instr.{Instr}
 use Rattle.isa.specs.declared.instr.Instr.TheVariants.{Const, Zero, Move, MoveWords, Same, Differ, Bin, Un, Jump, JumpZero, Call, Argument, ArgumentWords, SetResults, Load, Store, Address, Offset, Index, SliceIndex, Slice, Born, Alloc, Make, Append, Copy, PrintInt, PrintBool, PrintText, PrintSpace, PrintLine, ReadInt, Return, Exit as ExitWith, PanicText, PanicInt, PanicBool}
 use Rattle.isa.specs.declared.func.Func.{Func}
-use Rattle.machine.specs.Machine.{State, Does, Event, Printed, Asked, Item, bytes_of, asks_in, act, act_on, calls, entered, address_of, zeroed, frame_of, owner_of, slot, puts, spot_of, is_nowhere, next_address, most_elements, taken, takes, touches, allocates, makes, element, header, grown, adds_in_place, adds_in_new, moves_old, adds, appends, appends_to, are_sizes, words_in, put_at, puts_words}
+use Rattle.machine.specs.Machine.{Last, State, Does, full_range, last_of, stops, Event, Printed, Asked, Item, bytes_of, asks_in, act, act_on, calls, entered, address_of, zeroed, frame_of, owner_of, slot, puts, spot_of, is_nowhere, next_address, most_elements, taken, takes, touches, allocates, makes, element, header, grown, adds_in_place, adds_in_new, moves_old, adds, appends, appends_to, are_sizes, words_in, put_at, puts_words}
 use Rattle.machine.specs.declared.memory.Spot.{Spot}
 use Rattle.machine.specs.declared.memory.Spot.TheVariants.{InHeap, InStack}
 use Rattle.machine.specs.Inside.{Inside}
@@ -60,7 +60,7 @@ at_first t max items steps s old = record {
 
 many_first : (t : Tables) (max : ℕ) (items : ℕ → Item) (n : ℕ) (s : State) → 0 < n → many (act t max items) n s ≡ go_on (act t max items s) (many (act t max items) (n - 1))
 many_first t max items zero s some = absurd (omega arith)
-many_first t max items (suc n) s some = let same : suc n - 1 ≡ n = omega arith in rw same (many_more State Event Ending (act t max items) n s)
+many_first t max items (suc n) s some = let same : suc n - 1 ≡ n = omega arith in rw same (many_more State Event Last (act t max items) n s)
 
 -- what a first step tells comes first in what the run tells
 first_of : (t : Tables) (max : ℕ) (items : ℕ → Item) (n : ℕ) (d : Does) → (more : List Event) × (events_of (go_on d (many (act t max items) n)) ≡ events_of d ++ more)
@@ -85,7 +85,7 @@ module _ (t : Tables) (max : ℕ) (items : ℕ → Item) (steps : ℕ) (first : 
       let es = events_of (act t max items s) in
       let within = g.within in
       let step : (n : ℕ) → many (act t max items) (suc n) s ≡ behind es (many (act t max items) n new) =
-      λ n. many_more State Event Ending (act t max items) n s ∙ ap (λ (d : Does). go_on d (many (act t max items) n)) did.0 in
+      λ n. many_more State Event Last (act t max items) n s ∙ ap (λ (d : Does). go_on d (many (act t max items) n)) did.0 in
       record {
         done = g.done ++ es;
         within = omega arith;
@@ -94,7 +94,7 @@ module _ (t : Tables) (max : ℕ) (items : ℕ → Item) (steps : ℕ) (first : 
         asked = omega (arith, asks_append g.done es, g.asked, did.2);
       }
 
-  stopped : (e : Ending) → (act t max items s ≡ Stops (events_of (act t max items s)) e) × Took now late (printed_by (act t max items s)) × (asks_in (events_of (act t max items s)) ≡ more)
+  stopped : (e : Last) → (act t max items s ≡ Stops (events_of (act t max items s)) e) × Took now late (printed_by (act t max items s)) × (asks_in (events_of (act t max items s)) ≡ more)
       → (many (act t max items) steps first ≡ Stops (events_of (many (act t max items) steps first)) e) × Took old late (printed_by (many (act t max items) steps first)) × (asks_in (events_of (many (act t max items) steps first)) ≡ answered + more)
   stopped e did =
       let es = events_of (act t max items s) in
@@ -171,20 +171,20 @@ module _ (t : Tables) (max : ℕ) (items : ℕ → Item) (steps : ℕ) (first : 
     ends ReadFault a = asked_in_step a
     ends WriteFault a = (printed_in_step a.0, let rose = a.1 in omega (arith, grown))
     ends NoMemory a = (part_taken a.0, part_asked a.1)
-    ends (Exit n) a = stopped (Exit n) a
-    ends (Panic x) a = stopped (Panic x) a
-    ends (StackLimit used asked limit) a = stopped (StackLimit used asked limit) a
-    ends (HeapLimit used asked limit) a = stopped (HeapLimit used asked limit) a
-    ends (WildAddress n) a = stopped (WildAddress n) a
-    ends (WildReturn n) a = stopped (WildReturn n) a
-    ends (WildLink n) a = stopped (WildLink n) a
-    ends (WildHeader n) a = stopped (WildHeader n) a
+    ends (Exit n) a = stopped (last_of new (Exit n)) a
+    ends (Panic x) a = stopped (last_of new (Panic x)) a
+    ends (StackLimit used asked limit) a = stopped (last_of new (StackLimit used asked limit)) a
+    ends (HeapLimit used asked limit) a = stopped (last_of new (HeapLimit used asked limit)) a
+    ends (WildAddress n) a = stopped (last_of new (WildAddress n)) a
+    ends (WildReturn n) a = stopped (last_of new (WildReturn n)) a
+    ends (WildLink n) a = stopped (last_of new (WildLink n)) a
+    ends (WildHeader n) a = stopped (last_of new (WildHeader n)) a
 
 pub runs_out : (t : Tables) (max : ℕ) (items : ℕ → Item) (steps : ℕ) (first : State) (left : ℕ) (s : State) (answered : ℕ) (old now : Option (List ℕ)) (before later : ℕ)
     → Going t max items steps first left s answered old now → left ≤ 0 → Answers (many (act t max items) steps first) s answered None old now before later
 runs_out t max items steps first left s answered old now before later g none =
     let within = g.within in
-    let whole : many (act t max items) steps first ≡ Goes (g.done ++ []) s = g.whole 0 steps (omega arith) ∙ ap (behind g.done) (many_none State Event Ending (act t max items) s) in
+    let whole : many (act t max items) steps first ≡ Goes (g.done ++ []) s = g.whole 0 steps (omega arith) ∙ ap (behind g.done) (many_none State Event Last (act t max items) s) in
     let told : events_of (many (act t max items) steps first) ≡ g.done = ap (λ (d : Does). events_of d) whole ∙ append-nil g.done in
     (whole ∙ ap (λ (l : List Event). let d : Does = Goes l s in d) (append-nil g.done ∙ sym told), rw told g.took, rw told g.asked)
 
@@ -197,7 +197,7 @@ pub refused : (t : Tables) (max : ℕ) (items : ℕ → Item) (steps : ℕ) (fir
 refused t max items steps first left s answered old now late g some needs nothing =
     let within = g.within in
     let so_far : many (act t max items) (steps - left) first ≡ Goes (g.done ++ []) s =
-    g.whole 0 (steps - left) (omega arith) ∙ ap (behind g.done) (many_none State Event Ending (act t max items) s) in
+    g.whole 0 (steps - left) (omega arith) ∙ ap (behind g.done) (many_none State Event Last (act t max items) s) in
     record {
       done = steps - left;
       before = omega arith;
@@ -228,7 +228,7 @@ pub unwritten : (t : Tables) (max : ℕ) (items : ℕ → Item) (steps : ℕ) (f
 unwritten t max items steps first left s answered more old now late g some part =
     let within = g.within in
     let so_far : many (act t max items) (steps - left) first ≡ Goes (g.done ++ []) s =
-    g.whole 0 (steps - left) (omega arith) ∙ ap (behind g.done) (many_none State Event Ending (act t max items) s) in
+    g.whole 0 (steps - left) (omega arith) ∙ ap (behind g.done) (many_none State Event Last (act t max items) s) in
     let same : g.done ++ [] ≡ g.done = append-nil g.done in
     record {
       done = steps - left;
@@ -252,8 +252,8 @@ call_events max frame (Some callee) s = by (nat_lt max (length s.words + callee.
     by : (b : Bool)
         → events_of
         (let done : Does = if b
-        then Stops [] (StackLimit (length s.words) callee.frame max)
-        else Goes [] (record { pc = callee.start; words = entered callee.frame (address_of max (length s.words - frame)) (s.pc + 1) (zeroed s.words callee.arguments callee.results); reads = s.reads; heap = s.heap }) in done)
+        then stops s (StackLimit (length s.words) callee.frame max)
+        else Goes [] (record s { pc = callee.start; words = entered callee.frame (address_of s.range.hi (length s.words - frame)) (s.pc + 1) (zeroed s.words callee.arguments callee.results) }) in done)
         ≡ []
     by true = refl
     by false = refl
@@ -265,9 +265,9 @@ if_nothing false d e p q = q
 takes_nothing : (s : State) (count : ℕ) (does : State → Does) → ((t : State) → events_of (does t) ≡ []) → events_of (takes s count does) ≡ []
 takes_nothing s count does none = if_nothing (nat_lt s.heap.max (length s.heap.words + count)) _ (does (taken s count)) refl (none (taken s count))
 
-touches_nothing : (max : ℕ) (s : State) (at count : ℕ) (does : Spot → Does) → ((spot : Spot) → events_of (does spot) ≡ []) → events_of (touches max s at count does) ≡ []
-touches_nothing max s at count does none =
-    let spot = spot_of max s.heap.words s.words at count in if_nothing (is_nowhere spot) _ (does spot) refl (none spot)
+touches_nothing : (s : State) (at count : ℕ) (does : Spot → Does) → ((spot : Spot) → events_of (does spot) ≡ []) → events_of (touches s at count does) ≡ []
+touches_nothing s at count does none =
+    let spot = spot_of s.range.hi s.heap.words s.words at count in if_nothing (is_nowhere spot) _ (does spot) refl (none spot)
 
 allocates_nothing : (s : State) (a count : ℕ) → events_of (allocates s a count) ≡ []
 allocates_nothing s a count = takes_nothing s count (λ t. puts t a (next_address s)) (λ t. refl)
@@ -278,19 +278,19 @@ makes_nothing s a long capacity w =
     (if_nothing (nat_le long capacity && nat_le capacity most_elements) _ _ (allocates_nothing s a (capacity * w)) refl)
     refl
 
-adds_nothing : (max : ℕ) (s : State) (a first long capacity count w : ℕ) (source : Spot) → events_of (adds max s a first long capacity count w source) ≡ []
-adds_nothing max s a first long capacity count w source =
+adds_nothing : (s : State) (a first long capacity count w : ℕ) (source : Spot) → events_of (adds s a first long capacity count w source) ≡ []
+adds_nothing s a first long capacity count w source =
     let put = words_in source s.heap.words s.words (count * w) in
     let room = grown (long + count) capacity in
     let rest : State → Does = λ t. puts_words (put_at (InHeap (length s.heap.words + long * w)) t put) a (header (next_address s) (long + count) room) in
     let renewed : State → Spot → Does = λ t spot. rest (put_at (InHeap (length s.heap.words)) t (words_in spot t.heap.words t.words (long * w))) in
-    if_nothing (nat_le (long + count) capacity) (adds_in_place max s a first long capacity count w source) (adds_in_new max s a first long room count w source)
-    (touches_nothing max s (element first long w) (count * w) (λ target. puts_words (put_at target s put) a (header first (long + count) capacity)) (λ spot. refl))
-    (takes_nothing s (room * w) (λ t. moves_old max t first long w (length s.heap.words) rest)
-    (λ t. if_nothing (long == 0) (rest t) (touches max t first (long * w) (renewed t)) refl (touches_nothing max t first (long * w) (renewed t) (λ spot. refl))))
+    if_nothing (nat_le (long + count) capacity) (adds_in_place s a first long capacity count w source) (adds_in_new s a first long room count w source)
+    (touches_nothing s (element first long w) (count * w) (λ target. puts_words (put_at target s put) a (header first (long + count) capacity)) (λ spot. refl))
+    (takes_nothing s (room * w) (λ t. moves_old t first long w (length s.heap.words) rest)
+    (λ t. if_nothing (long == 0) (rest t) (touches t first (long * w) (renewed t)) refl (touches_nothing t first (long * w) (renewed t) (λ spot. refl))))
 
-appends_nothing : (max : ℕ) (s : State) (added : Added) (a b c d w : ℕ) → events_of (appends max s added a b c d w) ≡ []
-appends_nothing max s added a b c d w = if_nothing (are_sizes (slot s (b + 1)) (slot s (b + 2))) (appends_to max s added a first long capacity c d w) (Stops [] (WildHeader long)) (by added) refl
+appends_nothing : (s : State) (added : Added) (a b c d w : ℕ) → events_of (appends s added a b c d w) ≡ []
+appends_nothing s added a b c d w = if_nothing (are_sizes (slot s (b + 1)) (slot s (b + 2))) (appends_to s added a first long capacity c d w) (stops s (WildHeader long)) (by added) refl
   where
     first : ℕ
     first = slot s b
@@ -301,16 +301,16 @@ appends_nothing max s added a b c d w = if_nothing (are_sizes (slot s (b + 1)) (
     capacity : ℕ
     capacity = slot s (b + 2)
 
-    by : (x : Added) → events_of (appends_to max s x a first long capacity c d w) ≡ []
-    by Slots = if_nothing (d == 0) (puts_words s a (header first long capacity)) (adds max s a first long capacity d w (InStack c)) refl (adds_nothing max s a first long capacity d w (InStack c))
+    by : (x : Added) → events_of (appends_to s x a first long capacity c d w) ≡ []
+    by Slots = if_nothing (d == 0) (puts_words s a (header first long capacity)) (adds s a first long capacity d w (InStack c)) refl (adds_nothing s a first long capacity d w (InStack c))
     by OfSlice =
         let count = slot s (c + 1) in
-        let put : Spot → Does = λ source. adds max s a first long capacity count w source in
-        let found = touches max s (slot s c) (count * w) put in
+        let put : Spot → Does = λ source. adds s a first long capacity count w source in
+        let found = touches s (slot s c) (count * w) put in
         let some : Does = if count == 0 then puts_words s a (header first long capacity) else found in
-        if_nothing (nat_le count most_elements) some (Stops [] (WildHeader count))
+        if_nothing (nat_le count most_elements) some (stops s (WildHeader count))
         (if_nothing (count == 0) (puts_words s a (header first long capacity)) found refl
-        (touches_nothing max s (slot s c) (count * w) put (λ source. adds_nothing max s a first long capacity count w source)))
+        (touches_nothing s (slot s c) (count * w) put (λ source. adds_nothing s a first long capacity count w source)))
         refl
 
 -- an instruction that needs memory tells nothing
@@ -318,7 +318,7 @@ needy_events : (t : Tables) (max : ℕ) (items : ℕ → Item) (s : State) (i : 
 needy_events t max items s (Call g) needs = call_events max (frame_of t (owner_of t s.pc)) (slice_get t.funcs g) s
 needy_events t max items s (Alloc a n site) needs = allocates_nothing s a n
 needy_events t max items s (Make a w site) needs = makes_nothing s a (slot s (a + 1)) (slot s (a + 2)) w
-needy_events t max items s (Append added a b c d w site) needs = appends_nothing max s added a b c d w
+needy_events t max items s (Append added a b c d w site) needs = appends_nothing s added a b c d w
 needy_events t max items s (Const a word) needs = absurd needs
 needy_events t max items s (Zero a n) needs = absurd needs
 needy_events t max items s (Move a b) needs = absurd needs
@@ -359,12 +359,12 @@ needy_asks t max items s needs =
 
 -- how far a run is that began and goes on at these places of a block
 abbrev pub SoFar : Tables → ℕ → ℕ → List ℕ → Words → RunState → ℕ → List ℕ → Words → RunState → Option (List ℕ) → Option (List ℕ) → (ℕ → Item) → ℕ → ℕ → Type 0
-SoFar t max steps block0 heap0 at0 left block heap at old now items reads answered = Going t max items steps (state_of block0 at0 reads heap0) left (state_of block at (reads + answered) heap) answered old now
+SoFar t max steps block0 heap0 at0 left block heap at old now items reads answered = Going t max items steps (state_of (full_range max) block0 at0 reads heap0) left (state_of (full_range max) block at (reads + answered) heap) answered old now
 
 -- how one step answers
 abbrev pub StepAnswers : Tables → ℕ → List ℕ → Words → RunState → List ℕ → Words → RunState → Option Ending → Option (List ℕ) → Option (List ℕ) → ℕ → ℕ → (ℕ → Item) → ℕ → ℕ → Type 0
 StepAnswers t max block0 heap0 at0 block heap at e old new before now items reads answered =
-    Answers (act t max items (state_of block0 at0 reads heap0)) (state_of block at (reads + answered) heap) answered e old new before now
+    Answers (act t max items (state_of (full_range max) block0 at0 reads heap0)) (state_of (full_range max) block at (reads + answered) heap) answered e old new before now
 
 module _ (t r : Tables) (max steps : ℕ) (block0 : List ℕ) (heap0 : Words) (at0 : RunState) (left : ℕ) (block : List ℕ) (heap : Words) (at : RunState) (block1 : List ℕ) (heap1 : Words) (at1 : RunState) (old now late : Option (List ℕ)) (before later last : ℕ) (come0 come come1 : Option (List ℕ)) (U V W : Type 0) (e : Option Ending)
     (so_far : WithAnswers None come0 come U (SoFar t max steps block0 heap0 at0 left block heap at old now)) (some : 0 < left) (same : r ≡ t) (both : U → V → W) (did : WithAnswers e come come1 V (StepAnswers r max block heap at block1 heap1 at1 e now late later last)) where
@@ -375,7 +375,7 @@ module _ (t r : Tables) (max steps : ℕ) (block0 : List ℕ) (heap0 : Words) (a
       joined None come0 come come1 U V W _ _ (SoFar t max steps block0 heap0 at0 (left - 1) block1 heap1 at1 old late) so_far two both
       (λ items reads a b g d.
       let order : reads + (a + b) ≡ reads + a + b = omega arith in
-      rw order (goes_on t max items steps (state_of block0 at0 reads heap0) left (state_of block at (reads + a) heap) (state_of block1 at1 (reads + a + b) heap1) a b old now late g some d))
+      rw order (goes_on t max items steps (state_of (full_range max) block0 at0 reads heap0) left (state_of (full_range max) block at (reads + a) heap) (state_of (full_range max) block1 at1 (reads + a + b) heap1) a b old now late g some d))
 
   pub ends_by : (ending : Ending) → e ≡ Some ending → before ≤ later → (e ≡ Some NoMemory → NeedsMemory r max at.pc (drop at.base block) heap × Took now late []) → WithAnswers e come0 come1 W (RunAnswers t max steps block0 heap0 at0 block1 heap1 at1 e old late before last)
   ends_by ending is grown memory =
@@ -383,9 +383,9 @@ module _ (t r : Tables) (max steps : ℕ) (block0 : List ℕ) (heap0 : Words) (a
       joined e come0 come come1 U V W _ _ (RunAnswers t max steps block0 heap0 at0 block1 heap1 at1 e old late before last) so_far one both
       (λ items reads a b g d.
       let order : reads + (a + b) ≡ reads + a + b = omega arith in
-      let s = state_of block at (reads + a) heap in
-      let first = state_of block0 at0 reads heap0 in
-      let new = state_of block1 at1 (reads + a + b) heap1 in
+      let s = state_of (full_range max) block at (reads + a) heap in
+      let first = state_of (full_range max) block0 at0 reads heap0 in
+      let new = state_of (full_range max) block1 at1 (reads + a + b) heap1 in
       let by_ending = subst (λ x. Answers (act t max items s) new b x now late later last) is d in
       let answers = ends t max items steps first left s new a b old now late g some before later last grown ending by_ending in (
         rw order (subst (λ x. Answers (many (act t max items) steps first) new (a + b) x old late before last) (sym is) answers),
@@ -404,7 +404,7 @@ pub ran_out : (t : Tables) (max steps : ℕ) (block0 : List ℕ) (heap0 : Words)
     → WithAnswers None come0 come U (SoFar t max steps block0 heap0 at0 left block heap at old now) → left ≤ 0 → WithAnswers None come0 come U (RunAnswers t max steps block0 heap0 at0 block heap at None old now before later)
 ran_out t max steps block0 heap0 at0 left block heap at old now before later come0 come U so_far none =
     follows None come0 come U _ (RunAnswers t max steps block0 heap0 at0 block heap at None old now before later) so_far
-    (λ items reads a g. (runs_out t max items steps (state_of block0 at0 reads heap0) left (state_of block at (reads + a) heap) a old now before later g none, λ refusal. absurd (no_refusal refusal), λ failure. absurd (no_failure failure)))
+    (λ items reads a g. (runs_out t max items steps (state_of (full_range max) block0 at0 reads heap0) left (state_of (full_range max) block at (reads + a) heap) a old now before later g none, λ refusal. absurd (no_refusal refusal), λ failure. absurd (no_failure failure)))
   where
     no_refusal : (let e : Option Ending = None in e ≡ Some NoMemory) → ⊥
     no_refusal e = cc
@@ -415,4 +415,4 @@ ran_out t max steps block0 heap0 at0 left block heap at old now before later com
 pub at_start : (t : Tables) (max steps : ℕ) (block : List ℕ) (heap : Words) (at : RunState) (old come : Option (List ℕ)) (U : Type 0) → U → WithAnswers None come come U (SoFar t max steps block heap at steps block heap at old old)
 at_start t max steps block heap at old come U same =
     nothing_read None come U (SoFar t max steps block heap at steps block heap at old old) goes_on_is_no_fault same
-    (λ items reads. let zero_more : reads + 0 ≡ reads = omega arith in rw zero_more (at_first t max items steps (state_of block at reads heap) old))
+    (λ items reads. let zero_more : reads + 0 ≡ reads = omega arith in rw zero_more (at_first t max items steps (state_of (full_range max) block at reads heap) old))

@@ -1,7 +1,8 @@
 -- What a call read from the input, by what its parts read.
-use Rattle.std.proofs.Common.{◌≡◌, ◌≢◌, ℕ, suc, Result, Ok, Err, append-nil, ◌+◌, List, [], ◌∷◌, ◌++◌, Option, Some, None, length, take, drop, arith, refl, ap, sym, ◌∙◌, subst, length-append}
+use Rattle.std.proofs.Common.{◌≡◌, ◌≢◌, ℕ, suc, Result, Ok, Err, append-nil, ◌+◌, ◌-◌, List, [], ◌∷◌, ◌++◌, Option, Some, None, length, take, drop, arith, refl, ap, sym, ◌∙◌, subst, length-append}
 use Rattle.std.specs.Prelude.{IfSome, FitsSigned, OnOk, OnErr, Bool, true, false, not, ◌==◌, if◌then◌else◌, codes}
 use Rattle.std.specs.Int.{w64}
+use Rattle.std.proofs.lemmas.Bool.{eq-eqb}
 use Rattle.std.proofs.lemmas.List.{take-append-drop, length-drop}
 use Rattle.outside.specs.Causes.{HasCause}
 use Rattle.outside.specs.Items.{Reads, Loses}
@@ -11,7 +12,8 @@ use Rattle.outside.proofs.Took.{Took-nothing}
 use Rattle.outside.specs.Took.{Took}
 use Rattle.simulation.specs.Steps.{Goes, Stops, events_of}
 use Rattle.heap_bump.specs.Words.{Words}
-use Rattle.machine.specs.Machine.{State, Does, Event, Printed, Asked, Item, asks_in, prints, truth_bytes, reads_item, item_words, put_words}
+use Rattle.isa.specs.Code.{Tables}
+use Rattle.machine.specs.Machine.{Range, Last, State, Does, last_of, stops, slot, first_return, returns, frame_of, Event, Printed, Asked, Item, asks_in, prints, truth_bytes, reads_item, item_words, put_words}
 use Rattle.machine.specs.Answers.{AllNumbers, Answers, Comes, HasFrom, ReadInOrder, ReadsUpTo, WithAnswers, printed_by, state_of}
 use Rattle.machine.specs.declared.run_state.Next.{Next}
 use Rattle.machine.specs.declared.run_state.RunState.{RunState}
@@ -96,7 +98,7 @@ goes_quietly d s taken is =
     let told : events_of d ≡ [] = ap (λ (x : Does). events_of x) is in
     (is ∙ ap (λ (l : List Event). let x : Does = Goes l s in x) (sym told), rw told (Took-nothing taken), ap asks_in told)
 
-stops_quietly : (d : Does) (e : Ending) (taken : Option (List ℕ)) → d ≡ Stops [] e → (d ≡ Stops (events_of d) e) × Took taken taken (printed_by d) × (asks_in (events_of d) ≡ 0)
+stops_quietly : (d : Does) (e : Last) (taken : Option (List ℕ)) → d ≡ Stops [] e → (d ≡ Stops (events_of d) e) × Took taken taken (printed_by d) × (asks_in (events_of d) ≡ 0)
 stops_quietly d e taken is =
     let told : events_of d ≡ [] = ap (λ (x : Does). events_of x) is in
     (is ∙ ap (λ (l : List Event). let x : Does = Stops l e in x) (sym told), rw told (Took-nothing taken), ap asks_in told)
@@ -107,22 +109,44 @@ told_nothing d s None taken faults c = goes_quietly d s taken c
 told_nothing d s (Some ReadFault) taken faults c = absurd c
 told_nothing d s (Some WriteFault) taken faults c = absurd c
 told_nothing d s (Some NoMemory) taken faults c = ((printed_by d, record { done = []; splits = refl; took = Took-nothing taken }), omega arith)
-told_nothing d s (Some (Exit n)) taken faults c = stops_quietly d (Exit n) taken c
-told_nothing d s (Some (Panic x)) taken faults c = stops_quietly d (Panic x) taken c
-told_nothing d s (Some (StackLimit used asked limit)) taken faults c = stops_quietly d (StackLimit used asked limit) taken c
-told_nothing d s (Some (HeapLimit used asked limit)) taken faults c = stops_quietly d (HeapLimit used asked limit) taken c
-told_nothing d s (Some (WildAddress n)) taken faults c = stops_quietly d (WildAddress n) taken c
-told_nothing d s (Some (WildReturn n)) taken faults c = stops_quietly d (WildReturn n) taken c
-told_nothing d s (Some (WildLink n)) taken faults c = stops_quietly d (WildLink n) taken c
-told_nothing d s (Some (WildHeader n)) taken faults c = stops_quietly d (WildHeader n) taken c
+told_nothing d s (Some (Exit n)) taken faults c = stops_quietly d (last_of s (Exit n)) taken c
+told_nothing d s (Some (Panic x)) taken faults c = stops_quietly d (last_of s (Panic x)) taken c
+told_nothing d s (Some (StackLimit used asked limit)) taken faults c = stops_quietly d (last_of s (StackLimit used asked limit)) taken c
+told_nothing d s (Some (HeapLimit used asked limit)) taken faults c = stops_quietly d (last_of s (HeapLimit used asked limit)) taken c
+told_nothing d s (Some (WildAddress n)) taken faults c = stops_quietly d (last_of s (WildAddress n)) taken c
+told_nothing d s (Some (WildReturn n)) taken faults c = stops_quietly d (last_of s (WildReturn n)) taken c
+told_nothing d s (Some (WildLink n)) taken faults c = stops_quietly d (last_of s (WildLink n)) taken c
+told_nothing d s (Some (WildHeader n)) taken faults c = stops_quietly d (last_of s (WildHeader n)) taken c
+
+-- a run that ends by its code, and not by a device or for want of memory
+pub ended_so : (d : Does) (s : State) (e : Ending) → e ≢ ReadFault → e ≢ WriteFault → e ≢ NoMemory → d ≡ stops s e → Comes d s (Some e)
+ended_so d s ReadFault read write memory is = absurd (read refl)
+ended_so d s WriteFault read write memory is = absurd (write refl)
+ended_so d s NoMemory read write memory is = absurd (memory refl)
+ended_so d s (Exit n) read write memory is = is
+ended_so d s (Panic x) read write memory is = is
+ended_so d s (StackLimit used asked limit) read write memory is = is
+ended_so d s (HeapLimit used asked limit) read write memory is = is
+ended_so d s (WildAddress n) read write memory is = is
+ended_so d s (WildReturn n) read write memory is = is
+ended_so d s (WildLink n) read write memory is = is
+ended_so d s (WildHeader n) read write memory is = is
+
+chosen : (b : Bool) (d e : Does) → b ≡ true → (let done : Does = if b then d else e in done) ≡ d
+chosen true d e is = refl
+chosen false d e is = absurd cc
+
+-- the first frame ends where the words do
+pub first_frame_leaves : (t : Tables) (s : State) (f frame : ℕ) (e : Ending) → frame ≡ frame_of t f → frame ≡ length s.words → e ≡ first_return (slot s (frame - 1)) (slot s (frame - 2)) → returns t f s ≡ stops s e
+first_frame_leaves t s f frame e is whole ends = rw (← is) (chosen (frame == length s.words) _ _ (eq-eqb frame (length s.words) whole) ∙ ap (stops s) (sym ends))
 
 -- what comes of a read, and the state that it comes to
-pub item_read : (s new : State) (a : ℕ) (item answer : Item) → item ≡ answer → new.pc ≡ s.pc + 1 → new.words ≡ put_words s.words a (item_words answer) → new.reads ≡ s.reads + 1 → new.heap ≡ s.heap
+pub item_read : (s new : State) (a : ℕ) (item answer : Item) → item ≡ answer → new.pc ≡ s.pc + 1 → new.words ≡ put_words s.words a (item_words answer) → new.reads ≡ s.reads + 1 → new.heap ≡ s.heap → new.range ≡ s.range
     → reads_item s a item ≡ Goes (Asked ∷ []) new
-item_read s new a item answer is pc words reads heap =
+item_read s new a item answer is pc words reads heap range =
     let more : new.reads ≡ suc s.reads = omega (arith, reads) in
-    let same : (let x : State = record { pc = s.pc + 1; words = put_words s.words a (item_words answer); reads = suc s.reads; heap = s.heap } in x) ≡ new =
-    rw (sym pc, sym words, sym more, sym heap) refl in
+    let same : (let x : State = record s { pc = s.pc + 1; words = put_words s.words a (item_words answer); reads = suc s.reads } in x) ≡ new =
+    rw (sym pc, sym words, sym more, sym heap, sym range) refl in
     ap (reads_item s a) is ∙ ap (λ (x : State). let d : Does = Goes (Asked ∷ []) x in d) same
 
 -- a step that asks for an item, and the item came
@@ -136,11 +160,11 @@ pub asked_in_vain : (d : Does) (new : State) (taken : Option (List ℕ)) (faults
 asked_in_vain d new taken faults told = record { before = []; after = []; splits = sym told; asked = refl; took = Took-nothing taken }
 
 -- a piece was written, or the sink failed
-pub piece_printed : {T : Type 0} (words : List ℕ) (at : RunState) (next : Next) (written : Result T Fault) (bytes piece : List ℕ) → bytes ≡ piece → (reads : ℕ) (heap : Words) (old new : Option (List ℕ)) (few many : Option ℕ) (before now : ℕ)
+pub piece_printed : {T : Type 0} (words : List ℕ) (at : RunState) (next : Next) (written : Result T Fault) (bytes piece : List ℕ) → bytes ≡ piece → (range : Range) (reads : ℕ) (heap : Words) (old new : Option (List ℕ)) (few many : Option ℕ) (before now : ℕ)
     → OnOk written (next ≡ record { at = record { pc = at.pc + 1; base = at.base }; ending = None }) → OnErr written (next ≡ record { at = at; ending = Some WriteFault })
-    → Puts old new few many written piece → HasCause before now written → Answers (prints (state_of words at reads heap) bytes) (state_of words next.at reads heap) 0 next.ending old new before now
-piece_printed words at next (Ok x) bytes piece same reads heap old new few many before now ok err puts cause = rw ok (refl, rw (append-nil, same) puts.whole, refl)
-piece_printed words at next (Err f) bytes piece same reads heap old new few many before now ok err puts cause =
+    → Puts old new few many written piece → HasCause before now written → Answers (prints (state_of range words at reads heap) bytes) (state_of range words next.at reads heap) 0 next.ending old new before now
+piece_printed words at next (Ok x) bytes piece same range reads heap old new few many before now ok err puts cause = rw ok (refl, rw (append-nil, same) puts.whole, refl)
+piece_printed words at next (Err f) bytes piece same range reads heap old new few many before now ok err puts cause =
     rw err (
       record {
         before = [];

@@ -11,15 +11,16 @@ use Rattle.isa.specs.declared.instr.Added.{Added}
 use Rattle.isa.specs.declared.instr.Added.TheVariants.{Slots, Slice as OfSlice}
 use Rattle.isa.specs.declared.instr.Instr.{Instr}
 use Rattle.isa.specs.declared.instr.Instr.TheVariants.{Call, Alloc, Make, Append}
-use Rattle.machine.specs.Machine.{State, Event, Printed, Asked, Item, Does, act, prints, bytes_of, asks_in, frame_of, are_sizes, grown, renews}
+use Rattle.machine.specs.Machine.{Range, State, Event, Printed, Asked, Item, Does, full_range, last_of, stops, act, prints, bytes_of, asks_in, frame_of, are_sizes, grown, renews}
 use Rattle.machine.specs.declared.run_state.Next.{Next}
 use Rattle.machine.specs.declared.run_state.RunState.{RunState}
 use Rattle.machine.specs.declared.run_state.Ending.{Ending}
 use Rattle.machine.specs.declared.run_state.Ending.TheVariants.{Exit, ReadFault, WriteFault, NoMemory, HeapLimit, WildAddress}
 
--- the state whose frame begins at an index of a block of words, where `reads` items were read before, with a heap
-abbrev pub state_of : List ℕ → RunState → ℕ → Words → State
-state_of block at reads heap = record { pc = at.pc; words = drop at.base block; reads = reads; heap = heap }
+-- the state whose frame begins at an index of a block of words, in a stack that lies there, where `reads` items were read before, with a
+-- heap
+abbrev pub state_of : Range → List ℕ → RunState → ℕ → Words → State
+state_of range block at reads heap = record { pc = at.pc; range = range; words = drop at.base block; reads = reads; heap = heap }
 
 abbrev pub printed_by : Does → List ℕ
 printed_by d = bytes_of (events_of d)
@@ -51,7 +52,7 @@ Answers d s answered (Some ReadFault) old new before now = AskedBehind d answere
 Answers d s answered (Some WriteFault) old new before now = PrintedInPart d answered old new × Rose before now
 Answers d s answered (Some NoMemory) old new before now = TookPrefix old new (printed_by d) × (answered ≤ asks_in (events_of d))
 Answers d s answered None old new before now = (d ≡ Goes (events_of d) s) × Took old new (printed_by d) × (asks_in (events_of d) ≡ answered)
-Answers d s answered (Some e) old new before now = (d ≡ Stops (events_of d) e) × Took old new (printed_by d) × (asks_in (events_of d) ≡ answered)
+Answers d s answered (Some e) old new before now = (d ≡ Stops (events_of d) (last_of s e)) × Took old new (printed_by d) × (asks_in (events_of d) ≡ answered)
 
 -- what comes of a step that tells nothing
 abbrev pub Comes : Does → State → Option Ending → Type 0
@@ -59,30 +60,30 @@ Comes d s (Some ReadFault) = ⊥
 Comes d s (Some WriteFault) = ⊥
 Comes d s (Some NoMemory) = ⊤
 Comes d s None = d ≡ Goes [] s
-Comes d s (Some e) = d ≡ Stops [] e
+Comes d s (Some e) = d ≡ stops s e
 
--- the same of a step from a place in a block to the one in the answer, whatever was read and is in the heap
-abbrev pub ComesTo : (State → Does) → (old : List ℕ) → RunState → (new : List ℕ) → Next → Type 0
-ComesTo does old at new next = (reads : ℕ) (heap : Words) → Comes (does (state_of old at reads heap)) (state_of new next.at reads heap) next.ending
+-- the same of a step from a place in a block to the one in the answer, in a stack that lies there, whatever was read and is in the heap
+abbrev pub ComesTo : Range → (State → Does) → (old : List ℕ) → RunState → (new : List ℕ) → Next → Type 0
+ComesTo range does old at new next = (reads : ℕ) (heap : Words) → Comes (does (state_of range old at reads heap)) (state_of range new next.at reads heap) next.ending
 
 -- the same of a step that reaches the heap
-abbrev pub ComesWith : (State → Does) → (old : List ℕ) → (heap : Words) → RunState → (new : List ℕ) → (heap' : Words) → Next → Type 0
-ComesWith does old heap at new heap' next = (reads : ℕ) → Comes (does (state_of old at reads heap)) (state_of new next.at reads heap') next.ending
+abbrev pub ComesWith : Range → (State → Does) → (old : List ℕ) → (heap : Words) → RunState → (new : List ℕ) → (heap' : Words) → Next → Type 0
+ComesWith range does old heap at new heap' next = (reads : ℕ) → Comes (does (state_of range old at reads heap)) (state_of range new next.at reads heap') next.ending
 
 -- what comes of a touch of words from an address on, which lie somewhere or not
 abbrev pub touched : Bool → State → ℕ → Does
 touched true s at = Goes [] s
-touched false s at = Stops [] (WildAddress at)
+touched false s at = stops s (WildAddress at)
 
 -- the same of a touch in a frame at an index of a block
-abbrev pub TouchComes : (State → Does) → (base at : ℕ) → (old : List ℕ) → (heap : Words) → (new : List ℕ) → (heap' : Words) → Bool → Type 0
-TouchComes does base at old heap new heap' found =
-    (pc reads : ℕ) → does (state_of old (record { pc = pc; base = base }) reads heap) ≡ touched found (state_of new (record { pc = pc + 1; base = base }) reads heap') at
+abbrev pub TouchComes : Range → (State → Does) → (base at : ℕ) → (old : List ℕ) → (heap : Words) → (new : List ℕ) → (heap' : Words) → Bool → Type 0
+TouchComes range does base at old heap new heap' found =
+    (pc reads : ℕ) → does (state_of range old (record { pc = pc; base = base }) reads heap) ≡ touched found (state_of range new (record { pc = pc + 1; base = base }) reads heap') at
 
 -- how a step answers that prints a piece
 abbrev pub PrintsAt : List ℕ → RunState → (piece : List ℕ) → Next → (old new : Option (List ℕ)) → (before now : ℕ) → Type 0
 PrintsAt words at piece next old new before now =
-    (reads : ℕ) (heap : Words) → Answers (prints (state_of words at reads heap) piece) (state_of words next.at reads heap) 0 next.ending old new before now
+    (range : Range) (reads : ℕ) (heap : Words) → Answers (prints (state_of range words at reads heap) piece) (state_of range words next.at reads heap) 0 next.ending old new before now
 
 -- these answers came in order from a reader, in front of which stood the old bytes, and after them the new ones
 abbrev pub ReadInOrder : Option (List ℕ) → Option (List ℕ) → List Item → Type 0
@@ -160,12 +161,12 @@ TakeEnds heap count e =
     ((heap.max < length heap.words + count) × (e ≡ HeapLimit (length heap.words) count heap.max)) ⊎ (Fit heap count × (e ≡ NoMemory))
 
 -- an array was taken and the old elements moved to it, whatever is done then; or the run ends so
-abbrev pub Renewed : (max first long capacity w : ℕ) → (stack : List ℕ) → (heap heap' : Words) → Result ℕ Ending → Type 0
-Renewed max first long capacity w stack heap heap' (Ok at) =
+abbrev pub Renewed : Range → (first long capacity w : ℕ) → (stack : List ℕ) → (heap heap' : Words) → Result ℕ Ending → Type 0
+Renewed range first long capacity w stack heap heap' (Ok at) =
     (pc reads : ℕ) (does : State → Does)
-    → renews max (record { pc = pc; words = stack; reads = reads; heap = heap }) first long capacity w does ≡ does (record { pc = pc; words = stack; reads = reads; heap = heap' })
-Renewed max first long capacity w stack heap heap' (Err e) =
-    (pc reads : ℕ) (does : State → Does) (s : State) → Comes (renews max (record { pc = pc; words = stack; reads = reads; heap = heap }) first long capacity w does) s (Some e)
+    → renews (record { pc = pc; range = range; words = stack; reads = reads; heap = heap }) first long capacity w does ≡ does (record { pc = pc; range = range; words = stack; reads = reads; heap = heap' })
+Renewed range first long capacity w stack heap heap' (Err e) =
+    (pc reads : ℕ) (does : State → Does) (s : State) → s.heap ≡ heap' → Comes (renews (record { pc = pc; range = range; words = stack; reads = reads; heap = heap }) first long capacity w does) s (Some e)
 
 -- After `done` steps stands an instruction whose bytes the sink refused in part: out took all that these steps print, and a
 -- front of what the instruction prints. What was read are the items that the steps and the instruction ask for.
@@ -197,6 +198,6 @@ pub record Refused (t : Tables) (max : ℕ) (items : ℕ → Item) (steps : ℕ)
 -- how a run of steps answers that begins and goes on at these places of a block
 abbrev pub RunAnswers : Tables → (max steps : ℕ) → List ℕ → Words → RunState → List ℕ → Words → RunState → Option Ending → (old new : Option (List ℕ)) → (before now : ℕ) → (ℕ → Item) → (reads answered : ℕ) → Type 0
 RunAnswers t max steps block0 heap0 at0 block heap at e old new before now items reads answered =
-    Answers (many (act t max items) steps (state_of block0 at0 reads heap0)) (state_of block at (reads + answered) heap) answered e old new before now
-    × (e ≡ Some NoMemory → Refused t max items steps (state_of block0 at0 reads heap0) answered old new)
-    × (e ≡ Some WriteFault → Unwritten t max items steps (state_of block0 at0 reads heap0) answered old new)
+    Answers (many (act t max items) steps (state_of (full_range max) block0 at0 reads heap0)) (state_of (full_range max) block at (reads + answered) heap) answered e old new before now
+    × (e ≡ Some NoMemory → Refused t max items steps (state_of (full_range max) block0 at0 reads heap0) answered old new)
+    × (e ≡ Some WriteFault → Unwritten t max items steps (state_of (full_range max) block0 at0 reads heap0) answered old new)

@@ -1,7 +1,7 @@
 //! Words that instructions take from the heap.
 ghost use Rattle.std.specs.Prelude.{◌≡◌, ◌≢◌, ◌⊎◌, ◌+◌, ◌*◌, ◌<◌, ◌≤◌, ◌^◌, ◌++◌, length, drop, replicate, slice_index, IfOk, IfErr, OnOk, OnErr, IsTrue, Some, None};
 ghost use Rattle.heap_bump.specs.Words.{first_address};
-ghost use Rattle.machine.specs.Machine.{allocates, makes, are_sizes};
+ghost use Rattle.machine.specs.Machine.{Range, allocates, makes, are_sizes};
 ghost use Rattle.machine.specs.Answers.{ComesWith, StatusFits, TakeEnds};
 
 use crate::slots::{set_slot, slot};
@@ -36,7 +36,7 @@ pub fn take(heap: &mut Heap, count: u64) -> Result<u64, Ending>
 pub fn allocate(words: &mut Vec<u64>, heap: &mut Heap, at: RunState, a: u16, count: u64) -> Next
     requires slot { at.base + a < length words.old.items }
     requires place { at.pc < 2 ^ 40 }
-    ensures allocates { ComesWith (λ s. allocates s a count) words.old.items heap.old at words.new.items heap.new result }
+    ensures allocates { (range : Range) → ComesWith range (λ s. allocates s a count) words.old.items heap.old at words.new.items heap.new result }
     ensures on { result.ending ≡ None → result.at ≡ record { pc = at.pc + 1; base = at.base } }
     ensures length { length words.new.items ≡ length words.old.items }
     ensures status { StatusFits result.ending }
@@ -67,13 +67,14 @@ pub fn are_sizes(long: u64, capacity: u64) -> bool
 pub fn make(words: &mut Vec<u64>, heap: &mut Heap, at: RunState, a: u16, w: u16) -> Next
     requires slots { at.base + (a + 3) ≤ length words.old.items }
     requires place { at.pc < 2 ^ 40 }
-    ensures makes { ComesWith (λ s. makes s a (slice_index s.words (a + 1)) (slice_index s.words (a + 2)) w)
+    ensures makes { (range : Range) → ComesWith range (λ s. makes s a (slice_index s.words (a + 1)) (slice_index s.words (a + 2)) w)
         words.old.items heap.old at words.new.items heap.new result }
     ensures on { result.ending ≡ None → result.at ≡ record { pc = at.pc + 1; base = at.base } }
     ensures length { length words.new.items ≡ length words.old.items }
     ensures status { StatusFits result.ending }
     ensures memory { result.ending ≡ Some Ending.NoMemory
-        → IsTrue (are_sizes (slice_index (drop at.base words.old.items) (a + 1)) (slice_index (drop at.base words.old.items) (a + 2)))
+        → IsTrue (are_sizes (slice_index (drop at.base words.old.items) (a + 1))
+        (slice_index (drop at.base words.old.items) (a + 2)))
         × (length heap.old.words + slice_index (drop at.base words.old.items) (a + 2) * w ≤ heap.old.max)
         × (words.new ≡ words.old) × (heap.new ≡ heap.old) }
     ensures read { result.ending ≢ Some Ending.ReadFault }

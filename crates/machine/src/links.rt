@@ -1,7 +1,6 @@
 //! Calls and returns.
 ghost use Rattle.std.specs.Prelude.{◌≡◌, ◌≢◌, ◌↔◌, ◌+◌, ◌-◌, ◌<◌, ◌≤◌, ◌^◌, length, drop, IsTrue, Some, None, []};
-ghost use Rattle.simulation.specs.Steps.{Stops};
-ghost use Rattle.machine.specs.Machine.{address_of, entered, calls, exits, returns, owner_of};
+ghost use Rattle.machine.specs.Machine.{upper_end, full_range, address_of, entered, calls, first_return, returns, owner_of};
 ghost use Rattle.machine.specs.Inside.{Inside};
 ghost use Rattle.machine.specs.Answers.{ComesTo, StatusFits};
 
@@ -18,7 +17,7 @@ const STACK_START: u64 = 1 << 40;
 #[inline(always)]
 pub fn address(stack_max: u64, distance: usize) -> u64
     requires { (distance ≤ stack_max) × (stack_max ≤ 2 ^ 32) }
-    ensures { result ≡ address_of stack_max distance }
+    ensures { result ≡ address_of (upper_end stack_max) distance }
 {
     STACK_START + stack_max - distance as u64
 }
@@ -52,7 +51,7 @@ pub fn call(
     requires frame { at.base + frame ≤ length words.old.items }
     requires callee { (2 ≤ callee.frame) × (at.base + (callee.arguments + callee.results) ≤ length words.old.items) }
     requires place { at.pc < 2 ^ 40 }
-    ensures calls { ComesTo (calls stack_max frame (Some callee)) words.old.items at words.new.items result }
+    ensures calls { ComesTo (full_range stack_max) (calls stack_max frame (Some callee)) words.old.items at words.new.items result }
     ensures entered { result.ending ≡ None
         → (result.at.pc ≡ callee.start) × (result.at.base + callee.frame ≤ length words.new.items) }
     ensures length { length words.new.items ≤ stack_max }
@@ -92,7 +91,7 @@ pub fn call(
 // How the first frame's return ends.
 #[inline(always)]
 fn exit(ret: u64, link: u64) -> Ending
-    ensures exits { exits ret link ≡ Stops [] result }
+    ensures exits { result ≡ first_return ret link }
     ensures status { StatusFits (Some result) }
     ensures memory { result ≢ Ending.NoMemory }
     ensures write { result ≢ Ending.WriteFault }
@@ -111,7 +110,7 @@ fn exit(ret: u64, link: u64) -> Ending
 #[inline(always)]
 fn links(words: &Vec<u64>, stack_max: u64, outer: usize, link: u64) -> bool
     requires { (length words.now.items ≤ stack_max) × (stack_max ≤ 2 ^ 32) }
-    ensures { IsTrue result ↔ (outer ≤ length words.now.items) × (link ≡ address_of stack_max (length words.now.items - outer)) }
+    ensures { IsTrue result ↔ (outer ≤ length words.now.items) × (link ≡ address_of (upper_end stack_max) (length words.now.items - outer)) }
 {
     outer <= words.len() && link == address(stack_max, words.len() - outer)
 }
@@ -122,7 +121,7 @@ pub fn leave(tables: &Tables<'_>, words: &Vec<u64>, stack_max: u64, at: RunState
     requires words { (length words.now.items ≤ stack_max) × (stack_max ≤ 2 ^ 32) }
     requires inside { Inside tables.now (length words.now.items) at.pc at.base }
     requires place { at.pc < length tables.now.instrs }
-    ensures returns { ComesTo (returns tables.now stack_max (owner_of tables.now at.pc))
+    ensures returns { ComesTo (full_range stack_max) (returns tables.now (owner_of tables.now at.pc))
         words.now.items at words.now.items result }
     ensures stays { result.ending ≡ None → Inside tables.now (length words.now.items) result.at.pc result.at.base }
     ensures status { StatusFits result.ending }

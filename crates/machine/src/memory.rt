@@ -1,6 +1,6 @@
 //! Memory that is reached by addresses: the heap's words that are taken, and the stack from the running frame on.
 ghost use Rattle.std.specs.Prelude.{◌≡◌, ◌≢◌, ◌+◌, ◌-◌, ◌<◌, ◌≤◌, ◌^◌, length, drop, slice_index, IsFalse, IsTrue, Some, None};
-ghost use Rattle.machine.specs.Machine.{words_at, lie_within, address_of, address_behind, spot_of, loads_from, loads, stores_at, stores, offsets, element_address, indexes};
+ghost use Rattle.machine.specs.Machine.{Range, upper_end, full_range, words_at, lie_within, address_of, address_behind, spot_of, loads_from, loads, stores_at, stores, offsets, element_address, indexes};
 ghost use Rattle.machine.specs.Inside.{Reached};
 ghost use Rattle.machine.specs.Answers.{ComesTo, ComesWith, StatusFits, TouchComes};
 
@@ -38,7 +38,7 @@ pub(crate) fn find(
     n: u64,
 ) -> Spot
     requires { (base ≤ length words.now.items) × (length words.now.items ≤ stack_max) × (stack_max ≤ 2 ^ 32) }
-    ensures is { result ≡ spot_of stack_max heap.now.words (drop base words.now.items) at n }
+    ensures is { result ≡ spot_of (upper_end stack_max) heap.now.words (drop base words.now.items) at n }
     ensures reached { Reached heap.now.words (length words.now.items) base at n result }
     ensures small { length heap.now.words ≤ 2 ^ 32 }
 {
@@ -79,7 +79,7 @@ fn load_words(
 ) -> bool
     requires words { (length words.old.items ≤ stack_max) × (stack_max ≤ 2 ^ 32) }
     requires slots { base + (a + n) ≤ length words.old.items }
-    ensures loads { TouchComes (λ s. loads_from (spot_of stack_max s.heap.words s.words at n) s a n at) base at
+    ensures loads { TouchComes (full_range stack_max) (λ s. loads_from (spot_of s.range.hi s.heap.words s.words at n) s a n at) base at
         words.old.items heap.now words.new.items heap.now result }
     ensures length { length words.new.items ≡ length words.old.items }
 {
@@ -109,7 +109,7 @@ fn store_words(
 ) -> bool
     requires words { (length words.old.items ≤ stack_max) × (stack_max ≤ 2 ^ 32) }
     requires slots { base + (c + n) ≤ length words.old.items }
-    ensures stores { TouchComes (λ s. stores_at (spot_of stack_max s.heap.words s.words at n) s (words_at s.words c n) at) base at
+    ensures stores { TouchComes (full_range stack_max) (λ s. stores_at (spot_of s.range.hi s.heap.words s.words at n) s (words_at s.words c n) at) base at
         words.old.items heap.old words.new.items heap.new result }
     ensures length { length words.new.items ≡ length words.old.items }
 {
@@ -131,7 +131,7 @@ fn store_words(
 pub fn slot_address(words: &Vec<u64>, stack_max: u64, base: usize, a: u16) -> u64
     requires words { (length words.now.items ≤ stack_max) × (stack_max ≤ 2 ^ 32) }
     requires slot { base + a < length words.now.items }
-    ensures { result ≡ address_of stack_max (length (drop base words.now.items) - a) }
+    ensures { result ≡ address_of (upper_end stack_max) (length (drop base words.now.items) - a) }
 {
     address(stack_max, words.len() - base - a as usize)
 }
@@ -141,7 +141,7 @@ pub fn slot_address(words: &Vec<u64>, stack_max: u64, base: usize, a: u16) -> u6
 pub fn offset(words: &mut Vec<u64>, at: RunState, a: u16, b: u16, off: u16) -> Next
     requires slots { (at.base + a < length words.old.items) × (at.base + b < length words.old.items) }
     requires place { at.pc < 2 ^ 40 }
-    ensures offsets { ComesTo (λ s. offsets s a b off) words.old.items at words.new.items result }
+    ensures offsets { (range : Range) → ComesTo range (λ s. offsets s a b off) words.old.items at words.new.items result }
     ensures on { result.ending ≡ None → result.at ≡ record { pc = at.pc + 1; base = at.base } }
     ensures length { length words.new.items ≡ length words.old.items }
     ensures status { StatusFits result.ending }
@@ -175,7 +175,7 @@ pub fn index(words: &mut Vec<u64>, at: RunState, a: u16, b: u16, c: u16, len: u1
     requires slots { (at.base + a < length words.old.items) × (at.base + b < length words.old.items)
         × (at.base + c < length words.old.items) }
     requires place { at.pc < 2 ^ 40 }
-    ensures indexes { ComesTo (λ s. indexes s a b c len w) words.old.items at words.new.items result }
+    ensures indexes { (range : Range) → ComesTo range (λ s. indexes s a b c len w) words.old.items at words.new.items result }
     ensures on { result.ending ≡ None → result.at ≡ record { pc = at.pc + 1; base = at.base } }
     ensures length { length words.new.items ≡ length words.old.items }
     ensures status { StatusFits result.ending }
@@ -228,7 +228,7 @@ pub fn load(
     requires words { (length words.old.items ≤ stack_max) × (stack_max ≤ 2 ^ 32) }
     requires slots { (at.base + (a + n) ≤ length words.old.items) × (at.base + b < length words.old.items) }
     requires place { at.pc < 2 ^ 40 }
-    ensures loads { ComesWith (λ s. loads stack_max s a b off n) words.old.items heap.now at words.new.items heap.now result }
+    ensures loads { ComesWith (full_range stack_max) (λ s. loads s a b off n) words.old.items heap.now at words.new.items heap.now result }
     ensures on { result.ending ≡ None → result.at ≡ record { pc = at.pc + 1; base = at.base } }
     ensures length { length words.new.items ≡ length words.old.items }
     ensures status { StatusFits result.ending }
@@ -259,7 +259,7 @@ pub fn store(
     requires words { (length words.old.items ≤ stack_max) × (stack_max ≤ 2 ^ 32) }
     requires slots { (at.base + a < length words.old.items) × (at.base + (c + n) ≤ length words.old.items) }
     requires place { at.pc < 2 ^ 40 }
-    ensures stores { ComesWith (λ s. stores stack_max s a off c n) words.old.items heap.old at words.new.items heap.new result }
+    ensures stores { ComesWith (full_range stack_max) (λ s. stores s a off c n) words.old.items heap.old at words.new.items heap.new result }
     ensures on { result.ending ≡ None → result.at ≡ record { pc = at.pc + 1; base = at.base } }
     ensures length { length words.new.items ≡ length words.old.items }
     ensures status { StatusFits result.ending }

@@ -1,7 +1,7 @@
 //! Instructions on slices.
 ghost use Rattle.std.specs.Prelude.{◌≡◌, ◌≢◌, ◌+◌, ◌*◌, ◌<◌, ◌≤◌, ◌^◌, ◌++◌, [], ◌∷◌, length, drop, take, slice_index, IfOk, IfErr, OnOk, OnErr, IsTrue, IsFalse, Some, None};
 ghost use Rattle.heap_bump.specs.Words.{first_address};
-ghost use Rattle.machine.specs.Machine.{slot, is_upto, is_below, element, header, element_of_slice, part_of_slice, are_sizes, grown, lesser, copies, adds_in_place, adds_in_new, adds, appends_slots, appends_slice, appends_to, appends, is_nowhere, renews, put_words};
+ghost use Rattle.machine.specs.Machine.{Range, full_range, slot, is_upto, is_below, element, header, element_of_slice, part_of_slice, are_sizes, grown, lesser, copies, adds_in_place, adds_in_new, adds, appends_slots, appends_slice, appends_to, appends, is_nowhere, renews, put_words};
 ghost use Rattle.machine.specs.Inside.{AddedInside, HasRoom};
 ghost use Rattle.machine.specs.Answers.{AppendNeeds, ComesTo, ComesWith, GrowthFits, Renewed, StatusFits};
 
@@ -48,7 +48,8 @@ pub fn slice_index(words: &mut Vec<u64>, at: RunState, a: u16, b: u16, c: u16, w
     requires slots { (at.base + a < length words.old.items) × (at.base + (b + 3) ≤ length words.old.items)
         × (at.base + c < length words.old.items) }
     requires place { at.pc < 2 ^ 40 }
-    ensures indexes { ComesTo (λ s. element_of_slice s a (slot s b) (slot s c) (slot s (b + 1)) w) words.old.items at words.new.items result }
+    ensures indexes { (range : Range) → ComesTo range (λ s. element_of_slice s a (slot s b) (slot s c)
+        (slot s (b + 1)) w) words.old.items at words.new.items result }
     ensures on { result.ending ≡ None → result.at ≡ record { pc = at.pc + 1; base = at.base } }
     ensures length { length words.new.items ≡ length words.old.items }
     ensures status { StatusFits result.ending }
@@ -82,7 +83,7 @@ pub fn slice_part(words: &mut Vec<u64>, at: RunState, a: u16, b: u16, c: u16, w:
     requires slots { (at.base + (a + 3) ≤ length words.old.items) × (at.base + (b + 3) ≤ length words.old.items)
         × (at.base + (c + 2) ≤ length words.old.items) }
     requires place { at.pc < 2 ^ 40 }
-    ensures slices { ComesTo (λ s. part_of_slice s a (slot s b) (slot s (b + 2)) (slot s c) (slot s (c + 1)) w)
+    ensures slices { (range : Range) → ComesTo range (λ s. part_of_slice s a (slot s b) (slot s (b + 2)) (slot s c) (slot s (c + 1)) w)
         words.old.items at words.new.items result }
     ensures on { result.ending ≡ None → result.at ≡ record { pc = at.pc + 1; base = at.base } }
     ensures length { length words.new.items ≡ length words.old.items }
@@ -135,7 +136,7 @@ fn copy_elements(
     requires words { (length words.old.items ≤ stack_max) × (stack_max ≤ 2 ^ 32) }
     requires slot { at.base + a < length words.old.items }
     requires place { at.pc < 2 ^ 40 }
-    ensures copies { ComesWith (λ s. copies stack_max s a to from count w) words.old.items heap.old at words.new.items heap.new result }
+    ensures copies { ComesWith (full_range stack_max) (λ s. copies s a to from count w) words.old.items heap.old at words.new.items heap.new result }
     ensures on { result.ending ≡ None → result.at ≡ record { pc = at.pc + 1; base = at.base } }
     ensures length { length words.new.items ≡ length words.old.items }
     ensures status { StatusFits result.ending }
@@ -180,7 +181,7 @@ pub fn copy(
     requires slots { (at.base + a < length words.old.items) × (at.base + (b + 3) ≤ length words.old.items)
         × (at.base + (c + 3) ≤ length words.old.items) }
     requires place { at.pc < 2 ^ 40 }
-    ensures copies { ComesWith (λ s. copies stack_max s a (slot s b) (slot s c) (lesser (slot s (b + 1)) (slot s (c + 1))) w)
+    ensures copies { ComesWith (full_range stack_max) (λ s. copies s a (slot s b) (slot s c) (lesser (slot s (b + 1)) (slot s (c + 1))) w)
         words.old.items heap.old at words.new.items heap.new result }
     ensures on { result.ending ≡ None → result.at ≡ record { pc = at.pc + 1; base = at.base } }
     ensures length { length words.new.items ≡ length words.old.items }
@@ -223,7 +224,7 @@ fn add_in_place(
     requires place { at.pc < 2 ^ 40 }
     requires source { HasRoom heap.old.words (length words.old.items) at.base (count * w) source × IsFalse (is_nowhere source) }
     requires sizes { (old.long + count ≤ 2 ^ 42) × (count ≤ 2 ^ 40) }
-    ensures adds { ComesWith (λ s. adds_in_place stack_max s a old.first old.long old.capacity count w source)
+    ensures adds { ComesWith (full_range stack_max) (λ s. adds_in_place s a old.first old.long old.capacity count w source)
         words.old.items heap.old at words.new.items heap.new result }
     ensures on { result.ending ≡ None → result.at ≡ record { pc = at.pc + 1; base = at.base } }
     ensures length { length words.new.items ≡ length words.old.items }
@@ -261,7 +262,7 @@ fn renew(
 ) -> Result<u64, Ending>
     requires words { (base ≤ length words.now.items) × (length words.now.items ≤ stack_max) × (stack_max ≤ 2 ^ 32) }
     requires sizes { (old.long ≤ capacity) × (capacity ≤ 2 ^ 42) }
-    ensures renews { Renewed stack_max old.first old.long capacity w (drop base words.now.items) heap.old heap.new result }
+    ensures renews { Renewed (full_range stack_max) old.first old.long capacity w (drop base words.now.items) heap.old heap.new result }
     ensures address { IfOk result (λ at. at ≡ first_address + length heap.old.words) }
     ensures kept { OnOk result (take (length heap.old.words) heap.new.words ≡ heap.old.words) }
     ensures long { OnOk result (length heap.new.words ≡ length heap.old.words + capacity * w) }
@@ -311,7 +312,7 @@ fn add_in_new(
     requires place { at.pc < 2 ^ 40 }
     requires source { HasRoom heap.old.words (length words.old.items) at.base (count * w) source × IsFalse (is_nowhere source) }
     requires sizes { (old.long + count ≤ capacity) × (capacity ≤ 2 ^ 42) }
-    ensures adds { ComesWith (λ s. adds_in_new stack_max s a old.first old.long capacity count w source)
+    ensures adds { ComesWith (full_range stack_max) (λ s. adds_in_new s a old.first old.long capacity count w source)
         words.old.items heap.old at words.new.items heap.new result }
     ensures on { result.ending ≡ None → result.at ≡ record { pc = at.pc + 1; base = at.base } }
     ensures length { length words.new.items ≡ length words.old.items }
@@ -355,7 +356,7 @@ fn add(
     requires place { at.pc < 2 ^ 40 }
     requires source { HasRoom heap.old.words (length words.old.items) at.base (count * w) source × IsFalse (is_nowhere source) }
     requires sizes { (old.long ≤ old.capacity) × (old.capacity ≤ 2 ^ 40) × (count ≤ 2 ^ 40) }
-    ensures adds { ComesWith (λ s. adds stack_max s a old.first old.long old.capacity count w source)
+    ensures adds { ComesWith (full_range stack_max) (λ s. adds s a old.first old.long old.capacity count w source)
         words.old.items heap.old at words.new.items heap.new result }
     ensures on { result.ending ≡ None → result.at ≡ record { pc = at.pc + 1; base = at.base } }
     ensures length { length words.new.items ≡ length words.old.items }
@@ -390,7 +391,7 @@ fn append_slots(
     requires slots { (at.base + (a + 3) ≤ length words.old.items) × (at.base + (c + d * w) ≤ length words.old.items) }
     requires place { at.pc < 2 ^ 40 }
     requires sizes { (old.long ≤ old.capacity) × (old.capacity ≤ 2 ^ 40) }
-    ensures appends { ComesWith (λ s. appends_slots stack_max s a old.first old.long old.capacity c d w)
+    ensures appends { ComesWith (full_range stack_max) (λ s. appends_slots s a old.first old.long old.capacity c d w)
         words.old.items heap.old at words.new.items heap.new result }
     ensures on { result.ending ≡ None → result.at ≡ record { pc = at.pc + 1; base = at.base } }
     ensures length { length words.new.items ≡ length words.old.items }
@@ -423,7 +424,7 @@ fn append_slice(
     requires slots { at.base + (a + 3) ≤ length words.old.items }
     requires place { at.pc < 2 ^ 40 }
     requires sizes { (old.long ≤ old.capacity) × (old.capacity ≤ 2 ^ 40) }
-    ensures appends { ComesWith (λ s. appends_slice stack_max s a old.first old.long old.capacity from count w)
+    ensures appends { ComesWith (full_range stack_max) (λ s. appends_slice s a old.first old.long old.capacity from count w)
         words.old.items heap.old at words.new.items heap.new result }
     ensures on { result.ending ≡ None → result.at ≡ record { pc = at.pc + 1; base = at.base } }
     ensures length { length words.new.items ≡ length words.old.items }
@@ -465,7 +466,7 @@ pub fn append(
     requires slots { (at.base + (a + 3) ≤ length words.old.items) × (at.base + (b + 3) ≤ length words.old.items)
         × AddedInside (length words.old.items) at.base added c d w }
     requires place { at.pc < 2 ^ 40 }
-    ensures appends { ComesWith (λ s. appends stack_max s added a b c d w) words.old.items heap.old at words.new.items heap.new result }
+    ensures appends { ComesWith (full_range stack_max) (λ s. appends s added a b c d w) words.old.items heap.old at words.new.items heap.new result }
     ensures on { result.ending ≡ None → result.at ≡ record { pc = at.pc + 1; base = at.base } }
     ensures length { length words.new.items ≡ length words.old.items }
     ensures status { StatusFits result.ending }

@@ -1,6 +1,6 @@
 //! Words that move between spots of memory.
 ghost use Rattle.std.specs.Prelude.{◌≡◌, ◌+◌, ◌*◌, ◌≤◌, ◌^◌, length, drop, IsFalse};
-ghost use Rattle.machine.specs.Machine.{words_at, put_words, spot_of, is_nowhere, words_in, stack_with, heap_with};
+ghost use Rattle.machine.specs.Machine.{upper_end, words_at, put_words, spot_of, is_nowhere, words_in, stack_with, heap_with};
 ghost use Rattle.machine.specs.Inside.{HasRoom};
 
 use crate::Spot;
@@ -30,7 +30,7 @@ pub fn find_elements(
     w: u16,
 ) -> Spot
     requires { (base ≤ length words.now.items) × (length words.now.items ≤ stack_max) × (stack_max ≤ 2 ^ 32) }
-    ensures is { result ≡ spot_of stack_max heap.now.words (drop base words.now.items) at (count * w) }
+    ensures is { result ≡ spot_of (upper_end stack_max) heap.now.words (drop base words.now.items) at (count * w) }
     ensures room { HasRoom heap.now.words (length words.now.items) base (count * w) result }
     ensures small { IsFalse (is_nowhere result) → count * w ≤ 2 ^ 32 }
 {
@@ -87,7 +87,10 @@ pub fn move_to_heap(
 )
     requires source { HasRoom heap.old.words (length words.now.items) base n source × IsFalse (is_nowhere source) }
     requires target { to + n ≤ length heap.old.words }
-    ensures { heap.new ≡ record heap.old { words = put_words heap.old.words to (words_in source heap.old.words (drop base words.now.items) n) } }
+    ensures { heap.new ≡ record heap.old {
+      words = put_words heap.old.words to
+          (words_in source heap.old.words (drop base words.now.items) n);
+    } }
 {
     match source {
         Spot::InHeap(from) => copy_heap(heap, from, to, n),
@@ -126,7 +129,10 @@ pub fn move_words(
     requires target { HasRoom heap.old.words (length words.old.items) base n target }
     ensures words { drop base words.new.items
         ≡ stack_with target (drop base words.old.items) (words_in source heap.old.words (drop base words.old.items) n) }
-    ensures heap { heap.new ≡ record heap.old { words = heap_with target heap.old.words (words_in source heap.old.words (drop base words.old.items) n) } }
+    ensures heap { heap.new ≡ record heap.old {
+      words = heap_with target heap.old.words
+          (words_in source heap.old.words (drop base words.old.items) n);
+    } }
     ensures length { length words.new.items ≡ length words.old.items }
 {
     match target {

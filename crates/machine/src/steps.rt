@@ -6,9 +6,8 @@ ghost use Rattle.outside.specs.Took.{Took, TookPrefix};
 ghost use Rattle.std.specs.Fmt.{signed_decimal};
 ghost use Rattle.std.specs.Int.{w64, cast_signed};
 ghost use Rattle.std.specs.Prelude.{◌≡◌, ◌⊎◌, ◌≢◌, ℕ, List, Option, [], OnOk, OnErr, IfOk, IfErr, ◌+◌, ◌-◌, ◌<◌, ◌≤◌, ◌^◌, ◌==◌, length, drop, map, if◌then◌else◌, slice_get, slice_index, slice_set, Some, None, IfSome, FitsSigned};
-ghost use Rattle.simulation.specs.Steps.{Stops};
 ghost use Rattle.heap_bump.specs.Words.{Words};
-ghost use Rattle.machine.specs.Machine.{Item, act, reads_item, item_words, put_words, exits_with, prints, truth_bytes, panic_of, address_of, frame_of, owner_of};
+ghost use Rattle.machine.specs.Machine.{Range, Item, upper_end, full_range, act, reads_item, item_words, put_words, exit_of, prints, truth_bytes, panic_of, address_of, frame_of, owner_of};
 ghost use Rattle.machine.specs.Inside.{Inside, IsRare, Leads, Touches};
 ghost use Rattle.machine.specs.Answers.{Answers, StatusFits, NeedsMemory, NoRoom, PrintsAt, WithAnswers, state_of};
 
@@ -101,7 +100,7 @@ fn incoming(
     requires frame { (frame < 2 ^ 16) × (base + frame ≤ length words.now.items) }
     ensures ok { IfOk result (λ i. (i ≡ frame + b) × (base + (i + n) ≤ length words.now.items)) }
     ensures wild { IfErr result (λ e.
-        (e ≡ Ending.WildAddress (address_of stack_max (length words.now.items - base) + (frame + b)))
+        (e ≡ Ending.WildAddress (address_of (upper_end stack_max) (length words.now.items - base) + (frame + b)))
         × (length words.now.items < base + (frame + b + n))) }
 {
     let index = frame + b as usize;
@@ -123,7 +122,7 @@ fn panic_of(fault: BinFault) -> Panic
 
 // How an exit with a status ends.
 fn exit(status: i64) -> Ending
-    ensures exits { exits_with status ≡ Stops [] result }
+    ensures exits { result ≡ exit_of status }
     ensures status { StatusFits (Some result) }
     ensures memory { result ≢ Ending.NoMemory }
     ensures write { result ≢ Ending.WriteFault }
@@ -188,9 +187,9 @@ fn read_int<I: Source>(
     requires place { at.pc < 2 ^ 40 }
     ensures step { WithAnswers result.ending (to_come reader.old (I.left input.old)) (to_come reader.new (I.left input.new))
         ((reader.new ≡ reader.old) × (input.new ≡ input.old))
-        (λ items reads answered. (heap : Words) (taken : Option (List ℕ)) (faults : ℕ)
-        → Answers (reads_item (state_of words.old.items at reads heap) a (items reads))
-        (state_of words.new.items result.at (reads + answered) heap) answered result.ending taken taken faults faults) }
+        (λ items reads answered. (range : Range) (heap : Words) (taken : Option (List ℕ)) (faults : ℕ)
+        → Answers (reads_item (state_of range words.old.items at reads heap) a (items reads))
+        (state_of range words.new.items result.at (reads + answered) heap) answered result.ending taken taken faults faults) }
     ensures later { I.faults input.old ≤ I.faults input.new }
     ensures fault { result.ending ≡ Some Ending.ReadFault → Rose (I.faults input.old) (I.faults input.new) }
     ensures on { result.ending ≡ None → result.at ≡ record { pc = at.pc + 1; base = at.base } }
@@ -226,8 +225,8 @@ fn rare_step<I: Source, O: Sink>(
     requires rare { IsRare instr.now }
     ensures step { WithAnswers result.ending (to_come reader.old (I.left input.old)) (to_come reader.new (I.left input.new))
         ((reader.new ≡ reader.old) × (input.new ≡ input.old))
-        (λ items reads answered. Answers (act tables.now stack_max items (state_of words.old.items at reads heap.old))
-        (state_of words.new.items result.at (reads + answered) heap.new) answered result.ending
+        (λ items reads answered. Answers (act tables.now stack_max items (state_of (full_range stack_max) words.old.items at reads heap.old))
+        (state_of (full_range stack_max) words.new.items result.at (reads + answered) heap.new) answered result.ending
         (O.taken out.old) (O.taken out.new) (O.faults out.old) (O.faults out.new)) }
     ensures later { O.faults out.old ≤ O.faults out.new }
     ensures source_later { I.faults input.old ≤ I.faults input.new }
@@ -235,7 +234,8 @@ fn rare_step<I: Source, O: Sink>(
     ensures stays { result.ending ≡ None → Inside tables.now (length words.new.items) result.at.pc result.at.base }
     ensures length { length words.new.items ≤ stack_max }
     ensures status { StatusFits result.ending }
-    ensures memory { result.ending ≡ Some Ending.NoMemory → NeedsMemory tables.now stack_max at.pc (drop at.base words.old.items) heap.old
+    ensures memory { result.ending ≡ Some Ending.NoMemory
+        → NeedsMemory tables.now stack_max at.pc (drop at.base words.old.items) heap.old
         × Took (O.taken out.old) (O.taken out.new) [] × (words.new ≡ words.old) × (heap.new ≡ heap.old) }
     ensures room { result.ending ≡ Some Ending.NoMemory → NoRoom tables.now at }
 {
@@ -350,8 +350,8 @@ fn rare_step_apart<I: Source, O: Sink>(
     requires rare { IsRare instr.now }
     ensures step { WithAnswers result.ending (to_come reader.old (I.left input.old)) (to_come reader.new (I.left input.new))
         ((reader.new ≡ reader.old) × (input.new ≡ input.old))
-        (λ items reads answered. Answers (act tables.now stack_max items (state_of words.old.items at reads heap.old))
-        (state_of words.new.items result.at (reads + answered) heap.new) answered result.ending
+        (λ items reads answered. Answers (act tables.now stack_max items (state_of (full_range stack_max) words.old.items at reads heap.old))
+        (state_of (full_range stack_max) words.new.items result.at (reads + answered) heap.new) answered result.ending
         (O.taken out.old) (O.taken out.new) (O.faults out.old) (O.faults out.new)) }
     ensures later { O.faults out.old ≤ O.faults out.new }
     ensures source_later { I.faults input.old ≤ I.faults input.new }
@@ -359,7 +359,8 @@ fn rare_step_apart<I: Source, O: Sink>(
     ensures stays { result.ending ≡ None → Inside tables.now (length words.new.items) result.at.pc result.at.base }
     ensures length { length words.new.items ≤ stack_max }
     ensures status { StatusFits result.ending }
-    ensures memory { result.ending ≡ Some Ending.NoMemory → NeedsMemory tables.now stack_max at.pc (drop at.base words.old.items) heap.old
+    ensures memory { result.ending ≡ Some Ending.NoMemory
+        → NeedsMemory tables.now stack_max at.pc (drop at.base words.old.items) heap.old
         × Took (O.taken out.old) (O.taken out.new) [] × (words.new ≡ words.old) × (heap.new ≡ heap.old) }
     ensures room { result.ending ≡ Some Ending.NoMemory → NoRoom tables.now at }
 {
@@ -391,8 +392,8 @@ pub fn step<I: Source, O: Sink>(
     requires place { (at.pc < length tables.now.instrs) × (length tables.now.instrs < 2 ^ 40) }
     ensures step { WithAnswers result.ending (to_come reader.old (I.left input.old)) (to_come reader.new (I.left input.new))
         ((reader.new ≡ reader.old) × (input.new ≡ input.old))
-        (λ items reads answered. Answers (act tables.now stack_max items (state_of words.old.items at reads heap.old))
-        (state_of words.new.items result.at (reads + answered) heap.new) answered result.ending
+        (λ items reads answered. Answers (act tables.now stack_max items (state_of (full_range stack_max) words.old.items at reads heap.old))
+        (state_of (full_range stack_max) words.new.items result.at (reads + answered) heap.new) answered result.ending
         (O.taken out.old) (O.taken out.new) (O.faults out.old) (O.faults out.new)) }
     ensures later { O.faults out.old ≤ O.faults out.new }
     ensures source_later { I.faults input.old ≤ I.faults input.new }
@@ -400,7 +401,8 @@ pub fn step<I: Source, O: Sink>(
     ensures stays { result.ending ≡ None → Inside tables.now (length words.new.items) result.at.pc result.at.base }
     ensures length { length words.new.items ≤ stack_max }
     ensures status { StatusFits result.ending }
-    ensures memory { result.ending ≡ Some Ending.NoMemory → NeedsMemory tables.now stack_max at.pc (drop at.base words.old.items) heap.old
+    ensures memory { result.ending ≡ Some Ending.NoMemory
+        → NeedsMemory tables.now stack_max at.pc (drop at.base words.old.items) heap.old
         × Took (O.taken out.old) (O.taken out.new) [] × (words.new ≡ words.old) × (heap.new ≡ heap.old) }
     ensures room { result.ending ≡ Some Ending.NoMemory → NoRoom tables.now at }
 {

@@ -6,7 +6,7 @@ use Rattle.typed_syntax.specs.Types.{TypeTree, ints}
 use Rattle.typed_syntax.specs.Value.{Value, int, bool, composite, words, zero_of as zero_value}
 use Rattle.typed_syntax.specs.Paths.{no_value, part, with_part}
 use Rattle.typed_syntax.specs.Syntax.{Ex, Exs, Pl, Steps, Left, Piece, Over, St, Sts, Func, Program, constant, read, unary, binary, logical_and, logical_or, call, part_of, literal, Elements, no_elements, element, none, more, results, read_int, local, global, here, inner, at_index, blank, new, to, text, shown, over_int, over_length, over_copy, declare, assign, update, bump, discard, block, if_stmt, for_stmt, range, break_stmt, continue_stmt, return_stmt, print, panic, exit, done, next, type_in}
-use Rattle.meaning.specs.Trace.{Entry, Call, Return, Born, Read, Write, Print, Asked, Fault, index_out_of_range, exit_code, raised_text, raised, Ending, Exit, Panic, World, Cell, Mark, state, entered, ended, copied, Trace, Turn, Note, Seen, End, Cut}
+use Rattle.meaning.specs.Trace.{Entry, Call, Return, Born, Read, Write, Print, Asked, Fault, index_out_of_range, exit_code, raised_text, raised, Ending, Exit, Panic, World, Cell, Origin, of_ex, of_exs, Held, Mark, state, entered, ended, copied, Trace, Turn, Note, Seen, End, Cut}
 use Rattle.meaning.specs.Store.{read_at, written, born}
 use Rattle.meaning.specs.Operators.{unary_of, binary_of}
 
@@ -35,7 +35,7 @@ pub record Ways : Type 0 where
   pub continued : Env → Go
   pub returned : List Value → Env → Go
   pub panicked : Position → Fault → Env → Go
-  pub held : List Value
+  pub held : List Held
   pub call : ℕ
 
 -- a function called by its number
@@ -72,7 +72,7 @@ abbrev pub no_fuel : Go
 no_fuel w = Cut
 
 -- a state in which these values are held
-abbrev pub see : List Value → Go → Go
+abbrev pub see : List Held → Go → Go
 see vs g w = Seen (state w vs) (g w)
 
 abbrev pub see_call : List Value → Go → Go
@@ -88,12 +88,16 @@ read_part v path k w = Note (Read v path (words (read_at w v path))) (k (read_at
 abbrev pub write_part : ℕ → List ℕ → Value → Go → Go
 write_part v path x g w = Note (Write v path (words x)) (g (written w v path x))
 
-abbrev pub new_cell : Setting → (entry site : ℕ) → Value → Cell
-new_cell around entry site x = record { site = site; call = entry; type = get_or around.sites site ints; value = x }
+-- the type of a site's variables
+abbrev pub site_type : Setting → ℕ → TypeTree
+site_type around site = get_or around.sites site ints
 
--- a new variable of a site, in the call with this number
-abbrev pub bear : Setting → (entry site : ℕ) → Value → Then ℕ → Go
-bear around entry site x k w = Note (Born site (words x)) (k (length w.store) (born w (new_cell around entry site x)))
+abbrev pub new_cell : (entry site : ℕ) → TypeTree → Value → Cell
+new_cell entry site t x = record { site = site; call = entry; type = t; value = x }
+
+-- a new variable of a site, in the call with this number, of a type
+abbrev pub bear : (entry site : ℕ) → TypeTree → Value → Then ℕ → Go
+bear entry site t x k w = Note (Born site (words x)) (k (length w.store) (born w (new_cell entry site t x)))
 
 -- the two results of `readInt`
 abbrev pub item_values : Item → List Value
@@ -106,19 +110,29 @@ ask around k w = Note Asked (k (item_values (around.items w.reads)) (record { st
 
 -- what stands above these
 
-abbrev pub holding : Ways → Value → Ways
-holding ws v = record { broken = ws.broken; continued = ws.continued; returned = ws.returned; panicked = ws.panicked; held = v ∷ ws.held; call = ws.call }
+-- a value that a call holds, at whose entry there were so many variables
+abbrev pub held_from : (entry : ℕ) → Ex → Value → Held
+held_from entry e v = record { value = v; origin = of_ex e; call = entry }
 
-abbrev pub holding_all : Ways → List Value → Ways
+-- the values of some expressions, from a number on
+abbrev pub all_held : (entry : ℕ) → Exs → (number : ℕ) → List Value → List Held
+all_held entry es number [] = []
+all_held entry es number (v ∷ vs) = record { value = v; origin = of_exs es number; call = entry } ∷ all_held entry es (suc number) vs
+
+abbrev pub holding_all : Ways → List Held → Ways
 holding_all ws vs = record { broken = ws.broken; continued = ws.continued; returned = ws.returned; panicked = ws.panicked; held = vs ++ ws.held; call = ws.call }
 
--- the end of an evaluation
-abbrev pub give : Ways → Then Value → Then Value
-give ws k v = see (v ∷ ws.held) (k v)
+-- the value of an expression is held
+abbrev pub holding : Ways → Ex → Value → Ways
+holding ws e v = holding_all ws (held_from ws.call e v ∷ [])
+
+-- the end of an expression's evaluation
+abbrev pub give : Ways → Ex → Then Value → Then Value
+give ws e k v = see (held_from ws.call e v ∷ ws.held) (k v)
 
 -- the end of an evaluation that gives several values
-abbrev pub give_all : Ways → Then (List Value) → Then (List Value)
-give_all ws k vs = see (vs ++ ws.held) (k vs)
+abbrev pub give_all : Ways → Exs → Then (List Value) → Then (List Value)
+give_all ws es k vs = see (all_held ws.call es 0 vs ++ ws.held) (k vs)
 
 -- the value of a call with one result
 abbrev pub only_value : List Value → Value
@@ -146,8 +160,8 @@ pub data Base : Type 0 where
 
 pub data Step : Type 0 where
   fixed : ℕ → Step
-  -- an index that was worked out, and the length of the array
-  worked : Position → Value → ℕ → Step
+  -- an index that was worked out, with its expression, and the length of the array
+  worked : Position → Ex → Value → ℕ → Step
 
 pub record Aim : Type 0 where
   pub base : Base
@@ -171,7 +185,7 @@ element_of (negsuc i) n = Err (index_out_of_range (negsuc i) (pos n))
 abbrev pub settle_steps : Ways → Env → List Step → ℕ → List ℕ → Then Spot → Go
 settle_steps ws env [] v path k = k (record { variable = v; path = path })
 settle_steps ws env (fixed i ∷ steps) v path k = settle_steps ws env steps v (path ++ i ∷ []) k
-settle_steps ws env (worked at x n ∷ steps) v path k = turn (or_panic ws env at (element_of (int_of x) n) (λ i. settle_steps ws env steps v (path ++ i ∷ []) k))
+settle_steps ws env (worked at e x n ∷ steps) v path k = turn (or_panic ws env at (element_of (int_of x) n) (λ i. settle_steps ws env steps v (path ++ i ∷ []) k))
 
 abbrev pub base_spot : Base → Spot
 base_spot (variable v) = record { variable = v; path = [] }
@@ -187,7 +201,7 @@ module _ (around : Setting) (calls : Calls) where
     pub walk : Steps → Ways → Env → Then (List Step) → Go
     walk here ws env k = k []
     walk (inner i steps) ws env k = walk steps ws env (λ r. k (fixed i ∷ r))
-    walk (at_index at e n steps) ws env k = ev e ws env (λ v. walk steps (holding ws v) env (λ r. k (worked at v n ∷ r)))
+    walk (at_index at e n steps) ws env k = ev e ws env (λ v. walk steps (holding ws e v) env (λ r. k (worked at e v n ∷ r)))
 
     pub aim : Pl → Ways → Env → Then Aim → Go
     aim (local site steps) ws env k = walk steps ws env (λ r. k (record { base = variable (home env site); steps = r }))
@@ -195,26 +209,26 @@ module _ (around : Setting) (calls : Calls) where
     aim (global g steps) ws env k = walk steps ws env (λ r. k (record { base = variable g; steps = r }))
 
     pub ev : Ex → Ways → Env → Then Value → Go
-    ev (constant v) ws env k = turn (give ws k v)
-    ev (read p) ws env k = aim p ws env (λ a. settle ws env a (λ q. read_part q.variable q.path (give ws k)))
-    ev (unary op e) ws env k = ev e ws env (λ v. turn (give ws k (unary_of op v)))
-    ev (binary at op a b) ws env k = ev a ws env (λ v. ev b (holding ws v) env (λ u. turn (or_panic ws env at (binary_of op v u) (give ws k))))
-    ev (logical_and a b) ws env k = ev a ws env (λ v. turn (branch v (ev b ws env k) (give ws k (bool false))))
-    ev (logical_or a b) ws env k = ev a ws env (λ v. turn (branch v (give ws k (bool true)) (ev b ws env k)))
-    ev (call f es) ws env k = evs es ws env (λ vs. turn (calls f vs ws env (λ rs. give ws k (only_value rs))))
-    ev (part_of n i e) ws env k = ev e ws env (λ v. turn (give ws k (part v i)))
-    ev (literal n es) ws env k = turn (fill es (zero_value (type_in around.types n)) ws env (give ws k))
+    ev (constant v) ws env k = turn (give ws (constant v) k v)
+    ev (read p) ws env k = aim p ws env (λ a. settle ws env a (λ q. read_part q.variable q.path (give ws (read p) k)))
+    ev (unary op e) ws env k = ev e ws env (λ v. turn (give ws (unary op e) k (unary_of op v)))
+    ev (binary at op a b) ws env k = ev a ws env (λ v. ev b (holding ws a v) env (λ u. turn (or_panic ws env at (binary_of op v u) (give ws (binary at op a b) k))))
+    ev (logical_and a b) ws env k = ev a ws env (λ v. turn (branch v (ev b ws env k) (give ws (logical_and a b) k (bool false))))
+    ev (logical_or a b) ws env k = ev a ws env (λ v. turn (branch v (give ws (logical_or a b) k (bool true)) (ev b ws env k)))
+    ev (call f es) ws env k = evs es ws env (λ vs. turn (calls f vs ws env (λ rs. give ws (call f es) k (only_value rs))))
+    ev (part_of n i e) ws env k = ev e ws env (λ v. turn (give ws (part_of n i e) k (part v i)))
+    ev (literal n es) ws env k = turn (fill es (zero_value (type_in around.types n)) ws env (give ws (literal n es) k))
 
     -- elements of a literal, each of which replaces a part of what stands so far
     pub fill : Elements → Value → Ways → Env → Then Value → Go
     fill no_elements x ws env k = k x
-    fill (element i e es) x ws env k = ev e ws env (λ v. fill es (with_part x i v) (holding ws v) env k)
+    fill (element i e es) x ws env k = ev e ws env (λ v. fill es (with_part x i v) (holding ws e v) env k)
 
     pub evs : Exs → Ways → Env → Then (List Value) → Go
     evs none ws env k = k []
-    evs (more e es) ws env k = ev e ws env (λ v. evs es (holding ws v) env (λ vs. k (v ∷ vs)))
-    evs (results f es) ws env k = evs es ws env (λ vs. turn (calls f vs ws env (give_all ws k)))
-    evs read_int ws env k = turn (ask around (give_all ws k))
+    evs (more e es) ws env k = ev e ws env (λ v. evs es (holding ws e v) env (λ vs. k (v ∷ vs)))
+    evs (results f es) ws env k = evs es ws env (λ vs. turn (calls f vs ws env (give_all ws (results f es) k)))
+    evs read_int ws env k = turn (ask around (give_all ws read_int k))
 
 -- a left side whose operands are known
 pub data Landing : Type 0 where
@@ -222,19 +236,22 @@ pub data Landing : Type 0 where
   birth : ℕ → Landing
   on : Aim → Landing
 
--- the values that an aim keeps, the newest first
-abbrev pub step_values : List Step → List Value
-step_values [] = []
-step_values (fixed i ∷ steps) = step_values steps
-step_values (worked at x n ∷ steps) = step_values steps ++ x ∷ []
+-- the values that an aim keeps, the newest first: those of indices, and before them what its place begins with
+abbrev pub step_values : (entry : ℕ) → List Step → List Held
+step_values entry [] = []
+step_values entry (fixed i ∷ steps) = step_values entry steps
+step_values entry (worked at e x n ∷ steps) = step_values entry steps ++ held_from entry e x ∷ []
 
-abbrev pub aim_values : Aim → List Value
-aim_values a = step_values a.steps
+abbrev pub base_values : (entry : ℕ) → Base → List Held
+base_values entry (variable v) = []
 
-abbrev pub landing_values : Landing → List Value
-landing_values nowhere = []
-landing_values (birth site) = []
-landing_values (on a) = aim_values a
+abbrev pub aim_values : (entry : ℕ) → Aim → List Held
+aim_values entry a = step_values entry a.steps ++ base_values entry a.base
+
+abbrev pub landing_values : (entry : ℕ) → Landing → List Held
+landing_values entry nowhere = []
+landing_values entry (birth site) = []
+landing_values entry (on a) = aim_values entry a
 
 module _ (around : Setting) (calls : Calls) where
   abbrev pub ready : Left → Ways → Env → Then Landing → Go
@@ -245,12 +262,12 @@ module _ (around : Setting) (calls : Calls) where
   -- the left sides' operands; what follows has the ways in which their values are held
   abbrev pub ready_all : List Left → Ways → Env → (List Landing → Ways → Go) → Go
   ready_all [] ws env k = k [] ws
-  ready_all (l ∷ ls) ws env k = ready l ws env (λ x. ready_all ls (holding_all ws (landing_values x)) env (λ xs ws1. k (x ∷ xs) ws1))
+  ready_all (l ∷ ls) ws env k = ready l ws env (λ x. ready_all ls (holding_all ws (landing_values ws.call x)) env (λ xs ws1. k (x ∷ xs) ws1))
 
 module _ (around : Setting) where
   abbrev pub land : Landing → Value → Ways → Env → (Env → Go) → Go
   land nowhere v ws env k = k env
-  land (birth site) v ws env k = turn (bear around ws.call site v (λ x. k (with_home env site x)))
+  land (birth site) v ws env k = turn (bear ws.call site (site_type around site) v (λ x. k (with_home env site x)))
   land (on a) v ws env k = settle ws env a (λ q. write_part q.variable q.path v (k env))
 
   abbrev pub land_all : List Landing → List Value → Ways → Env → (Env → Go) → Go
@@ -260,11 +277,11 @@ module _ (around : Setting) where
 
 -- new variables with the zero values of their types
 abbrev pub zero_of : Setting → ℕ → Value
-zero_of around site = zero_value (get_or around.sites site ints)
+zero_of around site = zero_value (site_type around site)
 
 abbrev pub bear_zeros : Setting → (entry : ℕ) → List ℕ → Env → (Env → Go) → Go
 bear_zeros around entry [] env k = k env
-bear_zeros around entry (site ∷ sites) env k = turn (bear around entry site (zero_of around site) (λ x. bear_zeros around entry sites (with_home env site x) k))
+bear_zeros around entry (site ∷ sites) env k = turn (bear entry site (site_type around site) (zero_of around site) (λ x. bear_zeros around entry sites (with_home env site x) k))
 
 -- printed pieces
 abbrev pub shown_bytes : Value → List ℕ
@@ -295,7 +312,7 @@ module _ (around : Setting) (calls : Calls) where
   abbrev pub pieces : List Piece → Ways → Env → Then (List (List ℕ)) → Go
   pieces [] ws env k = k []
   pieces (text number ∷ ps) ws env k = pieces ps ws env (λ r. k (get_or around.strings number [] ∷ r))
-  pieces (shown t e ∷ ps) ws env k = ev around calls e ws env (λ v. pieces ps (holding ws v) env (λ r. k (shown_bytes v ∷ r)))
+  pieces (shown t e ∷ ps) ws env k = ev around calls e ws env (λ v. pieces ps (holding ws e v) env (λ r. k (shown_bytes v ∷ r)))
 
   -- without a condition none is evaluated and no turn is taken
   abbrev pub test_of : Option Ex → Ways → Env → Then Value → Go
@@ -305,7 +322,7 @@ module _ (around : Setting) (calls : Calls) where
 -- a new round's variables, from the old ones
 abbrev pub renew : Setting → (entry : ℕ) → List ℕ → Env → (Env → Go) → Go
 renew around entry [] env k = k env
-renew around entry (site ∷ sites) env k = turn (mark (copied (home env site)) (read_part (home env site) [] (λ v. bear around entry site v (λ x. renew around entry sites (with_home env site x) k))))
+renew around entry (site ∷ sites) env k = turn (mark (copied (home env site)) (read_part (home env site) [] (λ v. bear entry site (site_type around site) v (λ x. renew around entry sites (with_home env site x) k))))
 
 -- the rounds of a loop, at most as many tests as there is fuel; a round goes by the number of variables at its beginning
 abbrev pub rounds : ℕ → (Env → Then Value → Go) → (ℕ → Env → (ℕ → Env → Go) → Go) → (ℕ → Env → Go) → ℕ → Env → Go
@@ -351,9 +368,9 @@ no_pos = record { offset = 0; line = 0; col = 0 }
 module _ (around : Setting) (calls : Calls) (fuel : ℕ) where
   -- how many rounds, and the ways in which what is gone over is held; of an array there is a copy where its elements are read
   abbrev pub begin_range : Over → Ways → Env → (ℕ → Ways → Env → Go) → Go
-  begin_range (over_int e) ws env k = ev around calls e ws env (λ v. turn (k (count_of v) (holding ws v) env))
+  begin_range (over_int e) ws env k = ev around calls e ws env (λ v. turn (k (count_of v) (holding ws e v) env))
   begin_range (over_length x) ws env k = turn (k x ws env)
-  begin_range (over_copy site e x) ws env k = ev around calls e ws env (λ v. turn (bear around ws.call site v (λ y. turn (k x ws (with_home env site y)))))
+  begin_range (over_copy site e x) ws env k = ev around calls e ws env (λ v. turn (bear ws.call site (site_type around site) v (λ y. turn (k x ws (with_home env site y)))))
 
   -- one round with an index: the left side's operands, the left side, the body
   abbrev pub index_round : Left → (Ways → Env → (Env → Go) → Go) → Ways → (ℕ → Env → Go) → ℕ → ℕ → Env → (ℕ → Env → Go) → Go
@@ -374,7 +391,7 @@ module _ (around : Setting) (calls : Calls) (fuel : ℕ) where
     pub exec : St → Ways → Env → (Env → Go) → Go
     exec (declare sites) ws env k = bear_zeros around ws.call sites env k
     exec (update at p op e) ws env k =
-        aim around calls p ws env (λ a. settle ws env a (λ q. read_part q.variable q.path (λ v. ev around calls e (holding ws v) env (λ u. or_panic ws env at (binary_of op v u) (λ x. write_part q.variable q.path x (k env))))))
+        aim around calls p ws env (λ a. settle ws env a (λ q. read_part q.variable q.path (λ v. ev around calls e (holding (holding_all ws (base_values ws.call a.base)) (read p) v) env (λ u. or_panic ws env at (binary_of op v u) (λ x. write_part q.variable q.path x (k env))))))
     exec (bump at p op) ws env k =
         aim around calls p ws env (λ a. settle ws env a (λ q. read_part q.variable q.path (λ v. or_panic ws env at (binary_of op v (int (pos 1))) (λ x. write_part q.variable q.path x (k env)))))
     exec (assign ls es) ws env k = ready_all around calls ls ws env (λ those ws1. evs around calls es ws1 env (λ vs. land_all around those vs ws env k))
@@ -403,7 +420,7 @@ module _ (around : Setting) where
   bear_params entry [] vs env k = k env
   bear_params entry (p ∷ ps) [] env k = k env
   bear_params entry (None ∷ ps) (v ∷ vs) env k = bear_params entry ps vs env k
-  bear_params entry (Some site ∷ ps) (v ∷ vs) env k = turn (bear around entry site v (λ x. bear_params entry ps vs (with_home env site x) k))
+  bear_params entry (Some site ∷ ps) (v ∷ vs) env k = turn (bear entry site (site_type around site) v (λ x. bear_params entry ps vs (with_home env site x) k))
 
 -- a return, with values or without: results with names are written, then read
 abbrev pub write_results : List ℕ → List Value → Env → Go → Go
@@ -440,7 +457,7 @@ module _ (around : Setting) (funcs : List Func) where
 
 abbrev pub bear_globals : Setting → List (ℕ × Value) → Go → Go
 bear_globals around [] g = g
-bear_globals around ((site, v) ∷ gs) g = bear around 0 site v (λ x. bear_globals around gs g)
+bear_globals around ((site, v) ∷ gs) g = bear 0 site (site_type around site) v (λ x. bear_globals around gs g)
 
 abbrev pub setting_of : (ℕ → Item) → Program → Setting
 setting_of items p = record { types = p.types; sites = p.sites; strings = p.strings; items = items }

@@ -3,6 +3,7 @@ use Rattle.std.specs.Prelude.{ℕ, ℤ, List}
 use Rattle.typed_syntax.specs.Positions.{Position}
 use Rattle.typed_syntax.specs.Types.{TypeTree}
 use Rattle.typed_syntax.specs.Value.{Value}
+use Rattle.typed_syntax.specs.Syntax.{Ex, Exs}
 
 -- an entry of the journal
 pub data Entry : Type 0 where
@@ -48,10 +49,21 @@ pub record World : Type 0 where
   pub store : List Cell
   pub reads : ℕ
 
+-- what gave a value: an expression, or some expressions, of whose values it has this number
+pub data Origin : Type 0 where
+  of_ex : Ex → Origin
+  of_exs : Exs → (number : ℕ) → Origin
+
+-- a value that a running evaluation holds, what gave it, and the running call: the number of variables at its entry
+pub record Held : Type 0 where
+  pub value : Value
+  pub origin : Origin
+  pub call : ℕ
+
 -- what is marked for the invariants
 pub data Mark : Type 0 where
   -- a state: the variables, and the values that running evaluations hold, the newest first
-  state : World → List Value → Mark
+  state : World → List Held → Mark
   -- a call begins, with these variables and arguments
   entered : World → List Value → Mark
   -- a round ends, a loop is left, or a call returns: the variables from this number on are not current any more

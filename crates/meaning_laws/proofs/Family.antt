@@ -2,7 +2,8 @@
 use Rattle.std.proofs.Common.{◌≡◌, ℕ, ◌-◌, ◌≤◌, List, arith}
 use Rattle.typed_syntax.specs.Value.{Value}
 use Rattle.typed_syntax.specs.Positions.{Position}
-use Rattle.meaning.specs.Trace.{Entry, Fault, Ending, World, Mark, state, Trace, Turn, Note, Seen, End, Cut}
+use Rattle.typed_syntax.specs.Syntax.{Ex}
+use Rattle.meaning.specs.Trace.{Entry, Fault, Ending, World, Held, Mark, state, Trace, Turn, Note, Seen, End, Cut}
 use Rattle.meaning.specs.Meaning.{Go, Then, Env, Ways, Calls, holding, holding_all}
 use Rattle.meaning_laws.specs.Laws.{Later, IsOther}
 
@@ -11,7 +12,7 @@ pub record Family : Type 1 where
   pub Holds : ℕ → World → Trace → Trace → Type 0
   pub turns : (b : ℕ) (w : World) (s t : Trace) → Holds (b - 1) w s t → Holds b w (Turn s) (Turn t)
   pub notes : (b : ℕ) (w : World) (e : Entry) (s t : Trace) → Holds b w s t → Holds b w (Note e s) (Note e t)
-  pub sees : (b : ℕ) (w : World) (vs us : List Value) (s t : Trace) → Holds b w s t → Holds b w (Seen (state w vs) s) (Seen (state w us) t)
+  pub sees : (b : ℕ) (w : World) (vs us : List Held) (s t : Trace) → Holds b w s t → Holds b w (Seen (state w vs) s) (Seen (state w us) t)
   pub marks : (b : ℕ) (w : World) (m : Mark) → IsOther m → (s t : Trace) → Holds b w s t → Holds b w (Seen m s) (Seen m t)
   pub later : (b : ℕ) (w u : World) (s t : Trace) → Later w u → Holds b u s t → Holds b w s t
   pub fewer : (b n : ℕ) (w : World) (s t : Trace) → b ≤ n → Holds n w s t → Holds b w s t
@@ -42,14 +43,14 @@ module _ (F : Family) where
   pub noting : {b : ℕ} {w : World} {e : Entry} {s t : Trace} → F.Holds b w s t → F.Holds b w (Note e s) (Note e t)
   noting {b} {w} {e} {s} {t} h = F.notes b w e s t h
 
-  pub seeing : {b : ℕ} {w : World} {vs us : List Value} {s t : Trace} → F.Holds b w s t → F.Holds b w (Seen (state w vs) s) (Seen (state w us) t)
+  pub seeing : {b : ℕ} {w : World} {vs us : List Held} {s t : Trace} → F.Holds b w s t → F.Holds b w (Seen (state w vs) s) (Seen (state w us) t)
   seeing {b} {w} {vs} {us} {s} {t} h = F.sees b w vs us s t h
 
-  abbrev pub keeping : {limit b : ℕ} → (v : Value) → Pair limit b → Pair limit b
-  keeping v p = record { left = holding p.left v; right = holding p.right v; same = p.same; within = p.within; hold = record { broken = p.hold.broken; continued = p.hold.continued; returned = p.hold.returned; panicked = p.hold.panicked } }
+  abbrev pub keeping : {limit b : ℕ} → (e : Ex) (v : Value) → Pair limit b → Pair limit b
+  keeping e v p = record { left = holding p.left e v; right = holding p.right e v; same = p.same; within = p.within; hold = record { broken = p.hold.broken; continued = p.hold.continued; returned = p.hold.returned; panicked = p.hold.panicked } }
 
-  abbrev pub keeping_all : {limit b : ℕ} → (vs : List Value) → Pair limit b → Pair limit b
-  keeping_all vs p = record { left = holding_all p.left vs; right = holding_all p.right vs; same = p.same; within = p.within; hold = record { broken = p.hold.broken; continued = p.hold.continued; returned = p.hold.returned; panicked = p.hold.panicked } }
+  abbrev pub keeping_all : {limit b : ℕ} → (vs us : List Held) → Pair limit b → Pair limit b
+  keeping_all vs us p = record { left = holding_all p.left vs; right = holding_all p.right us; same = p.same; within = p.within; hold = record { broken = p.hold.broken; continued = p.hold.continued; returned = p.hold.returned; panicked = p.hold.panicked } }
 
   -- under a lower bound
   abbrev pub ways_fewer : (b c : ℕ) (ws us : Ways) → c ≤ b → WaysHold b ws us → WaysHold c ws us

@@ -2,6 +2,7 @@
 use Rattle.std.proofs.Common.{◌≡◌, refl, ℕ, zero, suc, ◌+◌, ◌-◌, ◌≤◌, List, [], ◌∷◌, ◌++◌, Option, Some, None, Result, Ok, Err, Bool, true, false, ℤ, pos, negsuc, subst, arith}
 use Rattle.std.specs.Prelude.{length, slice_get, nat_lt}
 use Rattle.typed_syntax.specs.Positions.{Position}
+use Rattle.typed_syntax.specs.Types.{TypeTree}
 use Rattle.typed_syntax.specs.Value.{Value, int}
 use Rattle.typed_syntax.specs.Syntax.{Ex, Exs, Pl, Steps, Left, Piece, Over, St, Sts, Func, Program, constant, read, unary, binary, logical_and, logical_or, call, part_of, literal, Elements, no_elements, element, none, more, results, read_int, local, global, here, inner, at_index, blank, new, to, text, shown, over_int, over_length, over_copy, declare, assign, update, bump, discard, block, if_stmt, for_stmt, range, break_stmt, continue_stmt, return_stmt, print, panic, exit, done, next}
 use Rattle.meaning.specs.Trace.{Return, Fault, Exit, Panic, World, Mark, entered, ended, copied, Trace, Turn, Seen, Cut}
@@ -14,8 +15,8 @@ use Rattle.meaning_laws.proofs.Later.{later_same, written_later, born_later}
 use Rattle.meaning_laws.proofs.Family.{Family, WaysHold, Pair, CallsHold, turning, noting, seeing, keeping, keeping_all, lower, looping, ways_fewer}
 
 module _ (F : Family) where
-  give_all_holds : {b : ℕ} (ws us : Ways) (k j : Then (List Value)) → ((vs : List Value) (w : World) → F.Holds b w (k vs w) (j vs w)) → (vs : List Value) (w : World) → F.Holds b w (Meaning.give_all ws k vs w) (Meaning.give_all us j vs w)
-  give_all_holds ws us k j h vs w = seeing F (h vs w)
+  give_all_holds : {b : ℕ} (ws us : Ways) (es : Exs) (k j : Then (List Value)) → ((vs : List Value) (w : World) → F.Holds b w (k vs w) (j vs w)) → (vs : List Value) (w : World) → F.Holds b w (Meaning.give_all ws es k vs w) (Meaning.give_all us es j vs w)
+  give_all_holds ws us es k j h vs w = seeing F (h vs w)
 
   marking : {b : ℕ} (m : Mark) → IsOther m → {w : World} {s t : Trace} → F.Holds b w s t → F.Holds b w (Seen m s) (Seen m t)
   marking {b} m is {w} {s} {t} h = F.marks b w m is s t h
@@ -26,8 +27,8 @@ module _ (F : Family) where
   write_holds : {b : ℕ} (v : ℕ) (path : List ℕ) (x : Value) (g h : Go) → ((w : World) → F.Holds b w (g w) (h w)) → (w : World) → F.Holds b w (Meaning.write_part v path x g w) (Meaning.write_part v path x h w)
   write_holds v path x g h all w = noting F (F.later _ w _ _ _ (written_later w v path x) (all (written w v path x)))
 
-  bear_holds : {b : ℕ} (around : Setting) (entry site : ℕ) (x : Value) (k j : Then ℕ) → ((v : ℕ) (w : World) → F.Holds b w (k v w) (j v w)) → (w : World) → F.Holds b w (Meaning.bear around entry site x k w) (Meaning.bear around entry site x j w)
-  bear_holds around entry site x k j all w = noting F (F.later _ w _ _ _ (born_later w (Meaning.new_cell around entry site x)) (all (length w.store) (born w (Meaning.new_cell around entry site x))))
+  bear_holds : {b : ℕ} (entry site : ℕ) (t : TypeTree) (x : Value) (k j : Then ℕ) → ((v : ℕ) (w : World) → F.Holds b w (k v w) (j v w)) → (w : World) → F.Holds b w (Meaning.bear entry site t x k w) (Meaning.bear entry site t x j w)
+  bear_holds entry site t x k j all w = noting F (F.later _ w _ _ _ (born_later w (Meaning.new_cell entry site t x)) (all (length w.store) (born w (Meaning.new_cell entry site t x))))
 
   ask_holds : {b : ℕ} (around : Setting) (k j : Then (List Value)) → ((vs : List Value) (w : World) → F.Holds b w (k vs w) (j vs w)) → (w : World) → F.Holds b w (Meaning.ask around k w) (Meaning.ask around j w)
   ask_holds around k j all w = noting F (F.later _ w _ _ _ (later_same w) (all (Meaning.item_values (around.items w.reads)) (record { store = w.store; reads = suc w.reads })))
@@ -43,7 +44,7 @@ module _ (F : Family) where
   steps_hold : {limit b : ℕ} (steps : List Step) (v : ℕ) (path : List ℕ) (p : Pair F limit b) (env : Env) (k j : Then Spot) → ((q : Spot) (w : World) → F.Holds b w (k q w) (j q w)) → (w : World) → F.Holds b w (Meaning.settle_steps p.left env steps v path k w) (Meaning.settle_steps p.right env steps v path j w)
   steps_hold [] v path p env k j all w = all (record { variable = v; path = path }) w
   steps_hold (fixed i ∷ steps) v path p env k j all w = steps_hold steps v (path ++ i ∷ []) p env k j all w
-  steps_hold (worked at x n ∷ steps) v path p env k j all w = turning F (or_panic_holds p env at (Meaning.element_of (Meaning.int_of x) n) _ _ (λ i. steps_hold steps v (path ++ i ∷ []) p env k j all) w)
+  steps_hold (worked at e x n ∷ steps) v path p env k j all w = turning F (or_panic_holds p env at (Meaning.element_of (Meaning.int_of x) n) _ _ (λ i. steps_hold steps v (path ++ i ∷ []) p env k j all) w)
 
   settle_holds : {limit b : ℕ} (a : Aim) (p : Pair F limit b) (env : Env) (k j : Then Spot) → ((q : Spot) (w : World) → F.Holds b w (k q w) (j q w)) → (w : World) → F.Holds b w (Meaning.settle p.left env a k w) (Meaning.settle p.right env a j w)
   settle_holds a p env k j all w = turning F (steps_hold a.steps _ _ p env k j all w)
@@ -58,7 +59,7 @@ module _ (F : Family) where
       walk_holds : (steps : Steps) {b : ℕ} (p : Pair F (suc n) b) (env : Env) (k j : Then (List Step)) → ((r : List Step) (w : World) → F.Holds b w (k r w) (j r w)) → (w : World) → F.Holds b w (Meaning.walk around calls steps p.left env k w) (Meaning.walk around dalls steps p.right env j w)
       walk_holds here p env k j h w = h [] w
       walk_holds (inner i steps) p env k j h w = walk_holds steps p env _ _ (λ r. h (fixed i ∷ r)) w
-      walk_holds (at_index at e x steps) p env k j h w = ev_holds e p env _ _ (λ v. walk_holds steps (keeping F v p) env _ _ (λ r. h (worked at v x ∷ r))) w
+      walk_holds (at_index at e x steps) p env k j h w = ev_holds e p env _ _ (λ v. walk_holds steps (keeping F e v p) env _ _ (λ r. h (worked at e v x ∷ r))) w
 
       aim_holds : (q : Pl) {b : ℕ} (p : Pair F (suc n) b) (env : Env) (k j : Then Aim) → ((a : Aim) (w : World) → F.Holds b w (k a w) (j a w)) → (w : World) → F.Holds b w (Meaning.aim around calls q p.left env k w) (Meaning.aim around dalls q p.right env j w)
       aim_holds (local site steps) p env k j h w = walk_holds steps p env _ _ (λ r. h _) w
@@ -68,7 +69,7 @@ module _ (F : Family) where
       ev_holds (constant v) p env k j h w = turning F (seeing F (h v w))
       ev_holds (read q) p env k j h w = aim_holds q p env _ _ (λ a. settle_holds a p env _ _ (λ s u. noting F (seeing F (h _ u)))) w
       ev_holds (unary op e) p env k j h w = ev_holds e p env _ _ (λ v u. turning F (seeing F (h _ u))) w
-      ev_holds (binary at op a c) p env k j h w = ev_holds a p env _ _ (λ v. ev_holds c (keeping F v p) env _ _ (λ x u. turning F (or_panic_holds p env at (binary_of op v x) _ _ (λ y z. seeing F (h y z)) u))) w
+      ev_holds (binary at op a c) p env k j h w = ev_holds a p env _ _ (λ v. ev_holds c (keeping F a v p) env _ _ (λ x u. turning F (or_panic_holds p env at (binary_of op v x) _ _ (λ y z. seeing F (h y z)) u))) w
       ev_holds (logical_and a c) p env k j h w = ev_holds a p env _ _ (λ v u. turning F (when_holds (Meaning.is_true v) _ _ _ _ u (ev_holds c p env k j h u) (seeing F (h _ u)))) w
       ev_holds (logical_or a c) p env k j h w = ev_holds a p env _ _ (λ v u. turning F (when_holds (Meaning.is_true v) _ _ _ _ u (seeing F (h _ u)) (ev_holds c p env k j h u))) w
       ev_holds (call f es) p env k j h w = evs_hold es p env _ _ (λ vs. call_holds p f vs env _ _ (λ rs u. seeing F (h _ u))) w
@@ -77,13 +78,13 @@ module _ (F : Family) where
 
       fill_holds : (es : Elements) (x : Value) {b : ℕ} (p : Pair F (suc n) b) (env : Env) (k j : Then Value) → ((v : Value) (w : World) → F.Holds b w (k v w) (j v w)) → (w : World) → F.Holds b w (Meaning.fill around calls es x p.left env k w) (Meaning.fill around dalls es x p.right env j w)
       fill_holds no_elements x p env k j h w = h x w
-      fill_holds (element i e es) x p env k j h w = ev_holds e p env _ _ (λ v. fill_holds es _ (keeping F v p) env _ _ h) w
+      fill_holds (element i e es) x p env k j h w = ev_holds e p env _ _ (λ v. fill_holds es _ (keeping F e v p) env _ _ h) w
 
       evs_hold : (es : Exs) {b : ℕ} (p : Pair F (suc n) b) (env : Env) (k j : Then (List Value)) → ((vs : List Value) (w : World) → F.Holds b w (k vs w) (j vs w)) → (w : World) → F.Holds b w (Meaning.evs around calls es p.left env k w) (Meaning.evs around dalls es p.right env j w)
       evs_hold none p env k j h w = h [] w
-      evs_hold (more e es) p env k j h w = ev_holds e p env _ _ (λ v. evs_hold es (keeping F v p) env _ _ (λ vs. h (v ∷ vs))) w
+      evs_hold (more e es) p env k j h w = ev_holds e p env _ _ (λ v. evs_hold es (keeping F e v p) env _ _ (λ vs. h (v ∷ vs))) w
       evs_hold (results f es) p env k j h w = evs_hold es p env _ _ (λ vs. call_holds p f vs env _ _ (λ rs u. seeing F (h rs u))) w
-      evs_hold read_int p env k j h w = turning F (ask_holds around (Meaning.give_all p.left k) (Meaning.give_all p.right j) (give_all_holds p.left p.right k j h) w)
+      evs_hold read_int p env k j h w = turning F (ask_holds around (Meaning.give_all p.left read_int k) (Meaning.give_all p.right read_int j) (give_all_holds p.left p.right read_int k j h) w)
 
     ready_holds : (l : Left) {b : ℕ} (p : Pair F (suc n) b) (env : Env) (k j : Then Landing) → ((x : Landing) (w : World) → F.Holds b w (k x w) (j x w)) → (w : World) → F.Holds b w (Meaning.ready around calls l p.left env k w) (Meaning.ready around dalls l p.right env j w)
     ready_holds blank p env k j h w = h nowhere w
@@ -92,13 +93,13 @@ module _ (F : Family) where
 
     ready_all_hold : (ls : List Left) {b : ℕ} (p : Pair F (suc n) b) (env : Env) (k j : List Landing → Ways → Go) → ((xs : List Landing) (q : Pair F (suc n) b) (w : World) → F.Holds b w (k xs q.left w) (j xs q.right w)) → (w : World) → F.Holds b w (Meaning.ready_all around calls ls p.left env k w) (Meaning.ready_all around dalls ls p.right env j w)
     ready_all_hold [] p env k j h w = h [] p w
-    ready_all_hold (l ∷ ls) p env k j h w = ready_holds l p env _ _ (λ x. ready_all_hold ls (keeping_all F (Meaning.landing_values x) p) env _ _ (λ xs. h (x ∷ xs))) w
+    ready_all_hold (l ∷ ls) p env k j h w = ready_holds l p env _ _ (λ x. ready_all_hold ls (keeping_all F (Meaning.landing_values p.left.call x) (Meaning.landing_values p.right.call x) p) env _ _ (λ xs. h (x ∷ xs))) w
 
     land_holds : (l : Landing) (v : Value) {b : ℕ} (p : Pair F (suc n) b) (env : Env) (k j : Env → Go) → ((e : Env) (w : World) → F.Holds b w (k e w) (j e w)) → (w : World) → F.Holds b w (Meaning.land around l v p.left env k w) (Meaning.land around l v p.right env j w)
     land_holds nowhere v p env k j h w = h env w
     land_holds (birth site) v {b} p env k j h w =
-        turning F (subst (λ c. F.Holds b w (Meaning.bear around p.left.call site v (λ x. k (Meaning.with_home env site x)) w) (Meaning.bear around c site v (λ x. j (Meaning.with_home env site x)) w)) p.same
-        (bear_holds around p.left.call site v (λ x. k (Meaning.with_home env site x)) (λ x. j (Meaning.with_home env site x)) (λ x. h (Meaning.with_home env site x)) w))
+        turning F (subst (λ c. F.Holds b w (Meaning.bear p.left.call site (Meaning.site_type around site) v (λ x. k (Meaning.with_home env site x)) w) (Meaning.bear c site (Meaning.site_type around site) v (λ x. j (Meaning.with_home env site x)) w)) p.same
+        (bear_holds p.left.call site (Meaning.site_type around site) v (λ x. k (Meaning.with_home env site x)) (λ x. j (Meaning.with_home env site x)) (λ x. h (Meaning.with_home env site x)) w))
     land_holds (on a) v p env k j h w = settle_holds a p env _ _ (λ s. write_holds s.variable s.path v _ _ (h env)) w
 
     land_all_hold : (ls : List Landing) (vs : List Value) {b : ℕ} (p : Pair F (suc n) b) (env : Env) (k j : Env → Go) → ((e : Env) (w : World) → F.Holds b w (k e w) (j e w)) → (w : World) → F.Holds b w (Meaning.land_all around ls vs p.left env k w) (Meaning.land_all around ls vs p.right env j w)
@@ -109,7 +110,7 @@ module _ (F : Family) where
     pieces_hold : (ps : List Piece) {b : ℕ} (p : Pair F (suc n) b) (env : Env) (k j : Then (List (List ℕ))) → ((r : List (List ℕ)) (w : World) → F.Holds b w (k r w) (j r w)) → (w : World) → F.Holds b w (Meaning.pieces around calls ps p.left env k w) (Meaning.pieces around dalls ps p.right env j w)
     pieces_hold [] p env k j h w = h [] w
     pieces_hold (text number ∷ ps) p env k j h w = pieces_hold ps p env _ _ (λ r. h _) w
-    pieces_hold (shown t e ∷ ps) p env k j h w = ev_holds e p env _ _ (λ v. pieces_hold ps (keeping F v p) env _ _ (λ r. h _)) w
+    pieces_hold (shown t e ∷ ps) p env k j h w = ev_holds e p env _ _ (λ v. pieces_hold ps (keeping F e v p) env _ _ (λ r. h _)) w
 
     more_hold : (bs : List (List ℕ)) {b : ℕ} (g h : Go) → ((w : World) → F.Holds b w (g w) (h w)) → (w : World) → F.Holds b w (Meaning.emit_more bs g w) (Meaning.emit_more bs h w)
     more_hold [] g h all w = turning F (noting F (all w))
@@ -129,7 +130,7 @@ module _ (F : Family) where
 
     renew_holds : (sites : List ℕ) {b : ℕ} (entry : ℕ) (env : Env) (k j : Env → Go) → ((e : Env) (w : World) → F.Holds b w (k e w) (j e w)) → (w : World) → F.Holds b w (Meaning.renew around entry sites env k w) (Meaning.renew around entry sites env j w)
     renew_holds [] entry env k j h w = h env w
-    renew_holds (site ∷ sites) entry env k j h w = turning F (marking (copied (Meaning.home env site)) tt (noting F (bear_holds around entry site _ _ _ (λ x. renew_holds sites entry (Meaning.with_home env site x) k j h) w)))
+    renew_holds (site ∷ sites) entry env k j h w = turning F (marking (copied (Meaning.home env site)) tt (noting F (bear_holds entry site (Meaning.site_type around site) _ _ _ (λ x. renew_holds sites entry (Meaning.with_home env site x) k j h) w)))
 
     -- loops: of parts that keep the family under each lower bound
     rounds_hold : {b : ℕ} → (test nest : Env → Then Value → Go) → ((c : ℕ) → c ≤ b → (env : Env) (k j : Then Value) → ((v : Value) (w : World) → F.Holds c w (k v w) (j v w)) → (w : World) → F.Holds c w (test env k w) (nest env j w)) →
@@ -161,11 +162,11 @@ module _ (F : Family) where
     test_holds (Some e) p env k j h w = ev_holds e p env _ _ (λ v u. turning F (h v u)) w
 
     begin_holds : (o : Over) {b : ℕ} (p : Pair F (suc n) b) (env : Env) (k j : ℕ → Ways → Env → Go) → ((x : ℕ) (q : Pair F (suc n) b) (e : Env) (w : World) → F.Holds b w (k x q.left e w) (j x q.right e w)) → (w : World) → F.Holds b w (Meaning.begin_range around calls (suc n) o p.left env k w) (Meaning.begin_range around dalls (suc m) o p.right env j w)
-    begin_holds (over_int e) p env k j h w = ev_holds e p env _ _ (λ v u. turning F (h _ (keeping F v p) env u)) w
+    begin_holds (over_int e) p env k j h w = ev_holds e p env _ _ (λ v u. turning F (h _ (keeping F e v p) env u)) w
     begin_holds (over_length x) p env k j h w = turning F (h x p env w)
     begin_holds (over_copy site e x) {b} p env k j h w = ev_holds e p env _ _ (λ v u.
-        turning F (subst (λ c. F.Holds b u (Meaning.bear around p.left.call site v (λ y. Meaning.turn (k x p.left (Meaning.with_home env site y))) u) (Meaning.bear around c site v (λ y. Meaning.turn (j x p.right (Meaning.with_home env site y))) u)) p.same
-        (bear_holds around p.left.call site v _ _ (λ y z. turning F (h x p (Meaning.with_home env site y) z)) u))) w
+        turning F (subst (λ c. F.Holds b u (Meaning.bear p.left.call site (Meaning.site_type around site) v (λ y. Meaning.turn (k x p.left (Meaning.with_home env site y))) u) (Meaning.bear c site (Meaning.site_type around site) v (λ y. Meaning.turn (j x p.right (Meaning.with_home env site y))) u)) p.same
+        (bear_holds p.left.call site (Meaning.site_type around site) v _ _ (λ y z. turning F (h x p (Meaning.with_home env site y) z)) u))) w
 
     quit_holds : (z : ℤ) {b : ℕ} (p : Pair F (suc n) b) (env : Env) (at : Position) (w : World) → F.Holds b w (Meaning.quit_with p.left env at z w) (Meaning.quit_with p.right env at z w)
     quit_holds (pos x) p env at w = when_holds (nat_lt x 126) _ _ _ _ w (F.ends _ w (Exit x)) (p.hold.panicked at _ env w)
@@ -203,7 +204,7 @@ module _ (F : Family) where
 
     zeros_hold : (sites : List ℕ) {b : ℕ} (entry : ℕ) (env : Env) (k j : Env → Go) → ((e : Env) (w : World) → F.Holds b w (k e w) (j e w)) → (w : World) → F.Holds b w (Meaning.bear_zeros around entry sites env k w) (Meaning.bear_zeros around entry sites env j w)
     zeros_hold [] entry env k j h w = h env w
-    zeros_hold (site ∷ sites) entry env k j h w = turning F (bear_holds around entry site _ _ _ (λ x. zeros_hold sites entry (Meaning.with_home env site x) k j h) w)
+    zeros_hold (site ∷ sites) entry env k j h w = turning F (bear_holds entry site (Meaning.site_type around site) _ _ _ (λ x. zeros_hold sites entry (Meaning.with_home env site x) k j h) w)
 
     mutual
       exec_holds : (s : St) {b : ℕ} (p : Pair F (suc n) b) (env : Env) (k j : Env → Go) → ((e : Env) (w : World) → F.Holds b w (k e w) (j e w)) → (w : World) → F.Holds b w (Meaning.exec around calls (suc n) s p.left env k w) (Meaning.exec around dalls (suc m) s p.right env j w)
@@ -211,7 +212,7 @@ module _ (F : Family) where
           subst (λ c. F.Holds b w (Meaning.bear_zeros around p.left.call sites env k w) (Meaning.bear_zeros around c sites env j w)) p.same (zeros_hold sites p.left.call env k j h w)
       exec_holds (assign ls es) p env k j h w = ready_all_hold ls p env _ _ (λ those q. evs_hold es q env _ _ (λ vs. land_all_hold those vs p env k j h)) w
       exec_holds (update at q op e) p env k j h w =
-          aim_holds q p env _ _ (λ a. settle_holds a p env _ _ (λ s u. noting F (ev_holds e (keeping F (read_at u s.variable s.path) p) env _ _ (λ x. or_panic_holds p env at (binary_of op (read_at u s.variable s.path) x) _ _ (λ y. write_holds s.variable s.path y _ _ (h env))) u))) w
+          aim_holds q p env _ _ (λ a. settle_holds a p env _ _ (λ s u. noting F (ev_holds e (keeping F (read q) (read_at u s.variable s.path) (keeping_all F (Meaning.base_values p.left.call a.base) (Meaning.base_values p.right.call a.base) p)) env _ _ (λ x. or_panic_holds p env at (binary_of op (read_at u s.variable s.path) x) _ _ (λ y. write_holds s.variable s.path y _ _ (h env))) u))) w
       exec_holds (bump at q op) p env k j h w =
           aim_holds q p env _ _ (λ a. settle_holds a p env _ _ (λ s u. noting F (or_panic_holds p env _ (binary_of op (read_at u s.variable s.path) (int (pos 1))) _ _ (λ y. write_holds s.variable s.path y _ _ (h env)) u))) w
       exec_holds (discard es) p env k j h w = evs_hold es p env _ _ (λ vs. h env) w
@@ -241,7 +242,7 @@ module _ (F : Family) where
     params_hold [] vs entry env k j h w = h env w
     params_hold (p ∷ ps) [] entry env k j h w = h env w
     params_hold (None ∷ ps) (v ∷ vs) entry env k j h w = params_hold ps vs entry env k j h w
-    params_hold (Some site ∷ ps) (v ∷ vs) entry env k j h w = turning F (bear_holds around entry site v _ _ (λ x. params_hold ps vs entry (Meaning.with_home env site x) k j h) w)
+    params_hold (Some site ∷ ps) (v ∷ vs) entry env k j h w = turning F (bear_holds entry site (Meaning.site_type around site) v _ _ (λ x. params_hold ps vs entry (Meaning.with_home env site x) k j h) w)
 
   writes_hold : (sites : List ℕ) (vs : List Value) {b : ℕ} (env : Env) (g h : Go) → ((w : World) → F.Holds b w (g w) (h w)) → (w : World) → F.Holds b w (Meaning.write_results sites vs env g w) (Meaning.write_results sites vs env h w)
   writes_hold [] vs env g h all w = all w
@@ -272,7 +273,7 @@ module _ (F : Family) where
 
   globals_hold : (around : Setting) (gs : List (ℕ × Value)) {b : ℕ} (g h : Go) → ((w : World) → F.Holds b w (g w) (h w)) → (w : World) → F.Holds b w (Meaning.bear_globals around gs g w) (Meaning.bear_globals around gs h w)
   globals_hold around [] g h all w = all w
-  globals_hold around ((site, v) ∷ gs) g h all w = bear_holds around 0 site v _ _ (λ x. globals_hold around gs g h all) w
+  globals_hold around ((site, v) ∷ gs) g h all w = bear_holds 0 site (Meaning.site_type around site) v _ _ (λ x. globals_hold around gs g h all) w
 
   pub whole_holds : (items : ℕ → Item) (p : Program) (n m : ℕ) → n ≤ m → (w : World) → F.Holds n w (Meaning.whole items p n w) (Meaning.whole items p m w)
   whole_holds items p n m le w =

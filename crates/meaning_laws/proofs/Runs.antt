@@ -1,14 +1,14 @@
 -- The laws: longer runs extend, more fuel changes nothing, what is shown is what the journal prints, variables stay.
 use Rattle.std.proofs.Common.{◌≡◌, ◌≢◌, ℕ, zero, suc, ◌+◌, ◌-◌, ◌≤◌, List, [], ◌∷◌, ◌++◌, true, false, refl, sym, ap, ◌∙◌, subst, arith, inl, inr}
-use Rattle.std.specs.Prelude.{nat_le, if◌then◌else◌}
+use Rattle.std.specs.Prelude.{nat_le, if◌then◌else◌, Bool, Option, Some, None}
 use Rattle.std.proofs.lemmas.Bool.{cases_lt}
 use Rattle.simulation.specs.Outcome as Run
-use Rattle.simulation.specs.Outcome.{Lines, Outcome, Gives, Ends, Unfinished, upto, ending_in}
+use Rattle.simulation.specs.Outcome.{Lines, Outcome, Gives, Ends, Unfinished, upto, ending_in as last_in}
 use Rattle.meaning.specs.Trace.{Entry, Call, Return, Born, Read, Write, Print, Asked, Ending, Turns, StackLimit, HeapLimit, World, Mark, state, entered, ended, copied, Trace, Turn, Note, Seen, End, Cut}
 use Rattle.meaning.specs.Meaning.{whole, beginning, trace}
-use Rattle.meaning.specs.Output.{Limits, used_by, tail_of, Sight, out, output}
+use Rattle.meaning.specs.Output.{Limits, used_by, tail_of, Sight, Last, last, out, output}
 use Rattle.meaning.specs.Journal.{entries, entries_within, with_entry, journal_in, bytes_in, with_ask, asks_in, ending_of, meaning_of, printed}
-use Rattle.meaning_laws.specs.Laws.{Begins, Extends, LongerRunsExtend, LongerCappedExtend, LongerSourcesExtend, FuelIsEnough, settled, Shows, SourceShowsJournal, Under, Fuelled, Later, IsOther, Always, OnlyLater, VariablesStay}
+use Rattle.meaning_laws.specs.Laws.{Begins, Extends, LongerRunsExtend, LongerCappedExtend, LongerSourcesExtend, FuelIsEnough, settled, Shows, SourceShowsJournal, heap_after, heap_with, Under, Fuelled, Later, IsOther, Always, OnlyLater, VariablesStay}
 use Rattle.meaning_laws.proofs.Later.{later_same, later_trans}
 use Rattle.meaning_laws.proofs.Family.{Family}
 use Rattle.meaning_laws.proofs.Holding.{whole_holds}
@@ -93,7 +93,7 @@ fuel_is_enough items p n k =
 abbrev Below : Outcome Entry Ending → Outcome Entry Ending → Type 0
 Below o p = Run.Below (λ x y. x ≡ y) (λ x y. x ≡ y) o p
 
-abbrev BelowShown : Outcome Sight Ending → Outcome Sight Ending → Type 0
+abbrev BelowShown : Outcome Sight Last → Outcome Sight Last → Type 0
 BelowShown o p = Run.Below (λ x y. x ≡ y) (λ x y. x ≡ y) o p
 
 -- more turns, and more fuel
@@ -123,6 +123,12 @@ under_below n m le (End e) (Seen x t) h = absurd h
 under_below n m le (End e) Cut h = absurd h
 
 -- the same under limits
+no_last : (heap : ℕ) (x : Last) → (let none : Option Last = None in none ≡ Some x) → x.heap ≡ heap
+no_last heap x e = absurd cc
+
+last_there : (y x : Last) → Some y ≡ Some x → x.heap ≡ y.heap
+last_there y x e = let same : y ≡ x = cc in ap (λ (z : Last). z.heap) (sym same)
+
 module _ (l : Limits) where
   within_note : (n m : ℕ) (x : Entry) (s t : Trace) → ((calls : List ℕ) (heap : ℕ) → Below (upto n (entries_within l calls heap s)) (upto m (entries_within l calls heap t))) → (calls : List ℕ) (heap : ℕ) → Below (upto n (entries_within l calls heap (Note x s))) (upto m (entries_within l calls heap (Note x t)))
   within_note n m Return s t h calls heap = (refl, h (tail_of calls) heap)
@@ -174,7 +180,7 @@ module _ (l : Limits) where
   out_note : (n m : ℕ) (x : Entry) (s t : Trace) → ((calls : List ℕ) (heap : ℕ) → BelowShown (upto n (out l calls heap s)) (upto m (out l calls heap t))) → (calls : List ℕ) (heap : ℕ) → BelowShown (upto n (out l calls heap (Note x s))) (upto m (out l calls heap (Note x t)))
   out_note n m Return s t h calls heap = h (tail_of calls) heap
   out_note n m (Born site k) s t h calls heap =
-      let cut : Lines Sight Ending = Run.End (HeapLimit heap k l.heap_max) in
+      let cut : Lines Sight Last = Run.End (last heap (HeapLimit heap k l.heap_max)) in
       elim (l.on_heap site) as (λ q. BelowShown (upto n (if q then (if nat_le (heap + k) l.heap_max then out l calls (heap + k) s else cut) else out l calls heap s))
       (upto m (if q then (if nat_le (heap + k) l.heap_max then out l calls (heap + k) t else cut) else out l calls heap t))) [
         | true ↦
@@ -187,7 +193,7 @@ module _ (l : Limits) where
   out_note n m (Print bytes) s t h calls heap = (refl, h calls heap)
   out_note n m Asked s t h calls heap = (refl, h calls heap)
   out_note n m (Call f) s t h calls heap =
-      let cut : Lines Sight Ending = Run.End (StackLimit (used_by l calls) (l.frame f) l.stack_max) in
+      let cut : Lines Sight Last = Run.End (last heap (StackLimit (used_by l calls) (l.frame f) l.stack_max)) in
       elim (nat_le (used_by l calls + l.frame f) l.stack_max) as (λ o. BelowShown (upto n (if o then out l (f ∷ calls) heap s else cut)) (upto m (if o then out l (f ∷ calls) heap t else cut)))
       [ true ↦ h (f ∷ calls) heap | false ↦ refl ]
 
@@ -196,7 +202,7 @@ module _ (l : Limits) where
   out_below zero m le (Turn s) (Turn t) h calls heap = tt
   out_below (suc n) zero le (Turn s) (Turn t) h calls heap = absurd (omega arith)
   out_below (suc n) (suc m) le (Turn s) (Turn t) h calls heap = out_below n m (omega arith) s t h calls heap
-  out_below n m le (End e) (End f) h calls heap = h
+  out_below n m le (End e) (End f) h calls heap = ap (last heap) h
   out_below n m le (Seen x s) (Seen y t) h calls heap = out_below n m le s t h calls heap
   out_below n m le (Note x s) (Note y t) h calls heap =
       subst (λ e. BelowShown (upto n (out l calls heap (Note x s))) (upto m (out l calls heap (Note e t)))) h.0 (out_note n m x s t (out_below n m le s t h.1) calls heap)
@@ -218,34 +224,41 @@ module _ (l : Limits) where
   out_below n m le (End e) Cut h calls heap = absurd h
 
   -- what is shown
-  shows_note : (n : ℕ) (x : Entry) (t : Trace) → ((calls : List ℕ) (heap : ℕ) → Shows (upto n (out l calls heap t)) (meaning_of (upto n (entries_within l calls heap t)))) → (calls : List ℕ) (heap : ℕ) → Shows (upto n (out l calls heap (Note x t))) (meaning_of (upto n (entries_within l calls heap (Note x t))))
-  shows_note n Return t h calls heap = record { printed = (h (tail_of calls) heap).printed; ending = (h (tail_of calls) heap).ending }
+  shows_note : (n : ℕ) (x : Entry) (t : Trace) → ((calls : List ℕ) (heap : ℕ) → Shows l heap (upto n (out l calls heap t)) (meaning_of (upto n (entries_within l calls heap t)))) → (calls : List ℕ) (heap : ℕ) → Shows l heap (upto n (out l calls heap (Note x t))) (meaning_of (upto n (entries_within l calls heap (Note x t))))
+  shows_note n Return t h calls heap = let s = h (tail_of calls) heap in record { printed = s.printed; ending = s.ending; taken = s.taken }
   shows_note n (Born site k) t h calls heap =
-      let cut : Lines Sight Ending = Run.End (HeapLimit heap k l.heap_max) in
+      let cut : Lines Sight Last = Run.End (last heap (HeapLimit heap k l.heap_max)) in
       let cut' : Lines Entry Ending = Run.End (HeapLimit heap k l.heap_max) in
-      elim (l.on_heap site) as (λ q. Shows (upto n (if q then (if nat_le (heap + k) l.heap_max then out l calls (heap + k) t else cut) else out l calls heap t))
+      let more : Bool → List Entry → ℕ = λ q es. heap_after l (if q then heap + k else heap) es in
+      elim (l.on_heap site) as (λ q. l.on_heap site ≡ q → Shows l heap (upto n (if q then (if nat_le (heap + k) l.heap_max then out l calls (heap + k) t else cut) else out l calls heap t))
       (meaning_of (upto n (if q then (if nat_le (heap + k) l.heap_max then Run.Line (Born site k) (entries_within l calls (heap + k) t) else cut') else Run.Line (Born site k) (entries_within l calls heap t))))) [
-        | true ↦
-            elim (nat_le (heap + k) l.heap_max) as (λ o. Shows (upto n (if o then out l calls (heap + k) t else cut)) (meaning_of (upto n (if o then Run.Line (Born site k) (entries_within l calls (heap + k) t) else cut'))))
-            [ true ↦ record { printed = (h calls (heap + k)).printed; ending = (h calls (heap + k)).ending } | false ↦ record { printed = refl; ending = refl } ]
-        | false ↦ record { printed = (h calls heap).printed; ending = (h calls heap).ending }
-      ]
-  shows_note n (Read v path k) t h calls heap = record { printed = (h calls heap).printed; ending = (h calls heap).ending }
-  shows_note n (Write v path k) t h calls heap = record { printed = (h calls heap).printed; ending = (h calls heap).ending }
-  shows_note n (Print bytes) t h calls heap = record { printed = ap (λ r. bytes ++ r) (h calls heap).printed; ending = (h calls heap).ending }
-  shows_note n Asked t h calls heap = record { printed = (h calls heap).printed; ending = (h calls heap).ending }
+        | true ↦ λ is.
+            elim (nat_le (heap + k) l.heap_max) as (λ o. Shows l heap (upto n (if o then out l calls (heap + k) t else cut)) (meaning_of (upto n (if o then Run.Line (Born site k) (entries_within l calls (heap + k) t) else cut')))) [
+              | true ↦ let s = h calls (heap + k) in let es = journal_in (upto n (entries_within l calls (heap + k) t)) in
+                  record { printed = s.printed; ending = s.ending; taken = λ x e. s.taken x e ∙ ap (λ q. more q es) (sym is) }
+              | false ↦ record { printed = refl; ending = refl; taken = last_there (last heap (HeapLimit heap k l.heap_max)) }
+            ]
+        | false ↦ λ is. let s = h calls heap in let es = journal_in (upto n (entries_within l calls heap t)) in
+            record { printed = s.printed; ending = s.ending; taken = λ x e. s.taken x e ∙ ap (λ q. more q es) (sym is) }
+      ] refl
+  shows_note n (Read v path k) t h calls heap = let s = h calls heap in record { printed = s.printed; ending = s.ending; taken = s.taken }
+  shows_note n (Write v path k) t h calls heap = let s = h calls heap in record { printed = s.printed; ending = s.ending; taken = s.taken }
+  shows_note n (Print bytes) t h calls heap = let s = h calls heap in record { printed = ap (λ r. bytes ++ r) s.printed; ending = s.ending; taken = s.taken }
+  shows_note n Asked t h calls heap = let s = h calls heap in record { printed = s.printed; ending = s.ending; taken = s.taken }
   shows_note n (Call f) t h calls heap =
-      let cut : Lines Sight Ending = Run.End (StackLimit (used_by l calls) (l.frame f) l.stack_max) in
+      let cut : Lines Sight Last = Run.End (last heap (StackLimit (used_by l calls) (l.frame f) l.stack_max)) in
       let cut' : Lines Entry Ending = Run.End (StackLimit (used_by l calls) (l.frame f) l.stack_max) in
-      elim (nat_le (used_by l calls + l.frame f) l.stack_max) as (λ o. Shows (upto n (if o then out l (f ∷ calls) heap t else cut)) (meaning_of (upto n (if o then Run.Line (Call f) (entries_within l (f ∷ calls) heap t) else cut'))))
-      [ true ↦ record { printed = (h (f ∷ calls) heap).printed; ending = (h (f ∷ calls) heap).ending } | false ↦ record { printed = refl; ending = refl } ]
+      elim (nat_le (used_by l calls + l.frame f) l.stack_max) as (λ o. Shows l heap (upto n (if o then out l (f ∷ calls) heap t else cut)) (meaning_of (upto n (if o then Run.Line (Call f) (entries_within l (f ∷ calls) heap t) else cut')))) [
+        | true ↦ let s = h (f ∷ calls) heap in record { printed = s.printed; ending = s.ending; taken = s.taken }
+        | false ↦ record { printed = refl; ending = refl; taken = last_there (last heap (StackLimit (used_by l calls) (l.frame f) l.stack_max)) }
+      ]
 
-  shows : (n : ℕ) (t : Trace) (calls : List ℕ) (heap : ℕ) → Shows (upto n (out l calls heap t)) (meaning_of (upto n (entries_within l calls heap t)))
-  shows n Cut calls heap = record { printed = refl; ending = refl }
-  shows zero (Turn t) calls heap = record { printed = refl; ending = refl }
-  shows (suc n) (Turn t) calls heap = shows n t calls heap
-  shows n (End e) calls heap = record { printed = refl; ending = refl }
-  shows n (Seen m t) calls heap = shows n t calls heap
+  shows : (n : ℕ) (t : Trace) (calls : List ℕ) (heap : ℕ) → Shows l heap (upto n (out l calls heap t)) (meaning_of (upto n (entries_within l calls heap t)))
+  shows n Cut calls heap = record { printed = refl; ending = refl; taken = no_last heap }
+  shows zero (Turn t) calls heap = record { printed = refl; ending = refl; taken = no_last heap }
+  shows (suc n) (Turn t) calls heap = let s = shows n t calls heap in record { printed = s.printed; ending = s.ending; taken = s.taken }
+  shows n (End e) calls heap = record { printed = refl; ending = refl; taken = last_there (last heap e) }
+  shows n (Seen m t) calls heap = let s = shows n t calls heap in record { printed = s.printed; ending = s.ending; taken = s.taken }
   shows n (Note x t) calls heap = shows_note n x t (shows n t) calls heap
 
 pub source_shows_journal : SourceShowsJournal

@@ -1,10 +1,10 @@
 -- What holds of every run.
 use Rattle.std.specs.Prelude.{◌≡◌, ◌≢◌, ◌⊎◌, ℕ, zero, suc, ◌+◌, ◌≤◌, List, [], ◌∷◌, ◌++◌, Option, Some, None, map, nat_le, if◌then◌else◌}
 use Rattle.typed_syntax.specs.Syntax.{Program}
-use Rattle.simulation.specs.Outcome.{Outcome, Below, ending_in, upto}
+use Rattle.simulation.specs.Outcome.{Outcome, Below, ending_in as last_in, upto}
 use Rattle.meaning.specs.Trace.{Entry, Call, Return, Born, Read, Write, Print, Asked, Ending, Turns, StackLimit, HeapLimit, World, Cell, Mark, state, entered, ended, copied, Trace, Turn, Note, Seen, End, Cut}
 use Rattle.meaning.specs.Meaning.{Item, whole, beginning, trace}
-use Rattle.meaning.specs.Output.{Limits, used_by, tail_of, Sight, source, output}
+use Rattle.meaning.specs.Output.{Limits, used_by, tail_of, Sight, Last, source, output, ending_in}
 use Rattle.meaning.specs.Journal.{Meaning, entries, mean, capped, printed}
 
 -- a list begins with another
@@ -38,14 +38,6 @@ abbrev pub settled : Option Ending → Ending
 settled None = Turns
 settled (Some e) = e
 
--- what a source shows to those outside is what the journal under limits prints, with the same ending
-pub record Shows (o : Outcome Sight Ending) (m : Meaning) : Type 0 where
-  pub printed : output o ≡ printed m.journal
-  pub ending : settled (ending_in o) ≡ m.ending
-
-abbrev pub SourceShowsJournal : Type 0
-SourceShowsJournal = (items : ℕ → Item) (p : Program) (l : Limits) (n : ℕ) → Shows (source items p l n) (capped items p l n)
-
 -- the running calls after an entry, and the words of the heap
 abbrev pub calls_with : List ℕ → Entry → List ℕ
 calls_with calls (Call f) = f ∷ calls
@@ -63,6 +55,16 @@ calls_after calls (e ∷ es) = calls_after (calls_with calls e) es
 abbrev pub heap_after : Limits → ℕ → List Entry → ℕ
 heap_after l heap [] = heap
 heap_after l heap (e ∷ es) = heap_after l (heap_with l heap e) es
+
+-- what a source shows to those outside is what the journal under limits prints, with the same ending, at which as many words of the heap
+-- are taken as variables of the journal are born with there, after those that were taken before
+pub record Shows (l : Limits) (heap : ℕ) (o : Outcome Sight Last) (m : Meaning) : Type 0 where
+  pub printed : output o ≡ printed m.journal
+  pub ending : settled (ending_in o) ≡ m.ending
+  pub taken : (x : Last) → last_in o ≡ Some x → x.heap ≡ heap_after l heap m.journal
+
+abbrev pub SourceShowsJournal : Type 0
+SourceShowsJournal = (items : ℕ → Item) (p : Program) (l : Limits) (n : ℕ) → Shows l 0 (source items p l n) (capped items p l n)
 
 -- the limit that an entry would pass, where these calls run and the heap has `heap` words
 abbrev pub limit_at : Limits → List ℕ → (heap : ℕ) → Entry → Option Ending

@@ -4,5 +4,5 @@ use Rattle.machine.proofs.steps.print_int.Goals as goal
 
 pub returns-clause-step : goal.returns-clause-step
 returns-clause-step g c =
-    λ reads heap. piece_printed _ c.args.at c.printed.result c.put_int-written.result _ _ (search rules) reads heap _ _ _ _ _ _ c.printed.ensures.ok c.printed.ensures.err
+    λ range reads heap. piece_printed _ c.args.at c.printed.result c.put_int-written.result _ _ (search rules) range reads heap _ _ _ _ _ _ c.printed.ensures.ok c.printed.ensures.err
     c.put_int-written.ensures.puts c.put_int-written.ensures.cause

@@ -1,8 +1,11 @@
 use Rattle.std.proofs.Common.{rules, ◌≡◌, ◌+◌, Some, refl, ap, ◌∙◌, arith}
+use Rattle.std.specs.Int.{w64, cast_signed}
 use Rattle.std.proofs.lemmas.Grind.{common_steps}
 use Rattle.outside.proofs.Took.{Took-nothing}
 use Rattle.isa.specs.declared.instr.Instr.{Instr}
-use Rattle.machine.proofs.Reading.{nothing_read, told_nothing}
+use Rattle.machine.specs.Machine.{full_range, stops, slot, exit_of}
+use Rattle.machine.specs.Answers.{state_of}
+use Rattle.machine.proofs.Reading.{nothing_read, told_nothing, ended_so}
 use Rattle.machine.proofs.Branches.{alloc_room, make_room, append_room}
 use Rattle.machine.proofs.steps.rare_step.Goals as goal
 
@@ -43,7 +46,14 @@ pub returns-in-PrintLine-clause-step : goal.returns-in-PrintLine-clause-step
 returns-in-PrintLine-clause-step g c = nothing_read _ _ _ _ (search rules) (refl, refl) (λ items reads. let more : reads + 0 ≡ reads = omega arith in rw more (search rules))
 
 pub returns-in-Exit-clause-step : goal.returns-in-Exit-clause-step
-returns-in-Exit-clause-step g c = nothing_read _ _ _ _ (search rules) (refl, refl) (λ items reads. let more : reads + 0 ≡ reads = omega arith in rw more (search rules))
+returns-in-Exit-clause-step g c =
+    nothing_read _ _ _ _ (search rules) (refl, refl)
+    (λ items reads.
+    let more : reads + 0 ≡ reads = omega arith in
+    let s = state_of (full_range c.args.stack_max) c.args.words.now.items c.args.at reads c.args.heap.now in
+    let d = stops s (exit_of (cast_signed w64 (slot s c.in-Exit.a))) in
+    rw (more, c.requires.instr, c.in-Exit.is, c.ended-in-Exit.ensures)
+    (told_nothing d s (Some c.exit.result) (g.O.Sink.taken c.args.out.now) (g.O.Sink.faults c.args.out.now) (ended_so d s c.exit.result c.exit.ensures.read c.exit.ensures.write c.exit.ensures.memory (search rules))))
 
 pub returns-in-PanicText-clause-step : goal.returns-in-PanicText-clause-step
 returns-in-PanicText-clause-step g c = nothing_read _ _ _ _ (search rules) (refl, refl) (λ items reads. let more : reads + 0 ≡ reads = omega arith in rw more (search rules))
@@ -57,12 +67,12 @@ returns-in-PanicBool-clause-step g c = nothing_read _ _ _ _ (search rules) (refl
 pub returns-in-Offset-clause-step : goal.returns-in-Offset-clause-step
 returns-in-Offset-clause-step g c =
     nothing_read _ _ _ _ c.offset.ensures.read (refl, refl)
-    (λ items reads. let more : reads + 0 ≡ reads = omega arith in rw (more, c.requires.instr, c.in-Offset.is) (told_nothing _ _ _ _ _ (c.offset.ensures.offsets reads c.args.heap.now)))
+    (λ items reads. let more : reads + 0 ≡ reads = omega arith in rw (more, c.requires.instr, c.in-Offset.is) (told_nothing _ _ _ _ _ (c.offset.ensures.offsets (full_range c.args.stack_max) reads c.args.heap.now)))
 
 pub returns-in-Index-clause-step : goal.returns-in-Index-clause-step
 returns-in-Index-clause-step g c =
     nothing_read _ _ _ _ c.index.ensures.read (refl, refl)
-    (λ items reads. let more : reads + 0 ≡ reads = omega arith in rw (more, c.requires.instr, c.in-Index.is) (told_nothing _ _ _ _ _ (c.index.ensures.indexes reads c.args.heap.now)))
+    (λ items reads. let more : reads + 0 ≡ reads = omega arith in rw (more, c.requires.instr, c.in-Index.is) (told_nothing _ _ _ _ _ (c.index.ensures.indexes (full_range c.args.stack_max) reads c.args.heap.now)))
 
 pub returns-in-Born-clause-step : goal.returns-in-Born-clause-step
 returns-in-Born-clause-step g c = nothing_read _ _ _ _ (search rules) (refl, refl) (λ items reads. let more : reads + 0 ≡ reads = omega arith in rw more (search rules))
@@ -70,17 +80,17 @@ returns-in-Born-clause-step g c = nothing_read _ _ _ _ (search rules) (refl, ref
 pub returns-in-SliceIndex-clause-step : goal.returns-in-SliceIndex-clause-step
 returns-in-SliceIndex-clause-step g c =
     nothing_read _ _ _ _ c.slice_index.ensures.read (refl, refl)
-    (λ items reads. let more : reads + 0 ≡ reads = omega arith in rw (more, c.requires.instr, c.in-SliceIndex.is) (told_nothing _ _ _ _ _ (c.slice_index.ensures.indexes reads c.args.heap.now)))
+    (λ items reads. let more : reads + 0 ≡ reads = omega arith in rw (more, c.requires.instr, c.in-SliceIndex.is) (told_nothing _ _ _ _ _ (c.slice_index.ensures.indexes (full_range c.args.stack_max) reads c.args.heap.now)))
 
 pub returns-in-Slice-clause-step : goal.returns-in-Slice-clause-step
 returns-in-Slice-clause-step g c =
     nothing_read _ _ _ _ c.slice_part.ensures.read (refl, refl)
-    (λ items reads. let more : reads + 0 ≡ reads = omega arith in rw (more, c.requires.instr, c.in-Slice.is) (told_nothing _ _ _ _ _ (c.slice_part.ensures.slices reads c.args.heap.now)))
+    (λ items reads. let more : reads + 0 ≡ reads = omega arith in rw (more, c.requires.instr, c.in-Slice.is) (told_nothing _ _ _ _ _ (c.slice_part.ensures.slices (full_range c.args.stack_max) reads c.args.heap.now)))
 
 pub returns-in-Alloc-clause-step : goal.returns-in-Alloc-clause-step
 returns-in-Alloc-clause-step g c =
     nothing_read _ _ _ _ c.allocate.ensures.read (refl, refl)
-    (λ items reads. let more : reads + 0 ≡ reads = omega arith in rw (more, c.requires.instr, c.in-Alloc.is) (told_nothing _ _ _ _ _ (c.allocate.ensures.allocates reads)))
+    (λ items reads. let more : reads + 0 ≡ reads = omega arith in rw (more, c.requires.instr, c.in-Alloc.is) (told_nothing _ _ _ _ _ (c.allocate.ensures.allocates (full_range c.args.stack_max) reads)))
 
 pub returns-in-Alloc-clause-memory : goal.returns-in-Alloc-clause-memory
 returns-in-Alloc-clause-memory g c =
@@ -93,7 +103,7 @@ returns-in-Alloc-clause-room g c = λ refusal. alloc_room c.args.tables.now c.ar
 pub returns-in-Make-clause-step : goal.returns-in-Make-clause-step
 returns-in-Make-clause-step g c =
     nothing_read _ _ _ _ c.make.ensures.read (refl, refl)
-    (λ items reads. let more : reads + 0 ≡ reads = omega arith in rw (more, c.requires.instr, c.in-Make.is) (told_nothing _ _ _ _ _ (c.make.ensures.makes reads)))
+    (λ items reads. let more : reads + 0 ≡ reads = omega arith in rw (more, c.requires.instr, c.in-Make.is) (told_nothing _ _ _ _ _ (c.make.ensures.makes (full_range c.args.stack_max) reads)))
 
 pub returns-in-Make-clause-memory : goal.returns-in-Make-clause-memory
 returns-in-Make-clause-memory g c =
