@@ -11,7 +11,7 @@ use Rattle.base.specs.declared.ids.SiteId.{SiteId}
 use Rattle.typed.specs.declared.stmt.Left.{Left as LeftData}
 use Rattle.typed.specs.declared.stmt.Piece.{Piece as PieceData}
 use Rattle.typed.specs.declared.stmt.Stmt.{Stmt}
-use Rattle.typed_syntax.specs.Frames.{far}
+use Rattle.frames.specs.Frames.{far}
 use Rattle.typed_syntax.specs.Syntax.{Ex, Exs, Pl, Left, Piece, Sts, Program, blank, new, to, text, shown, over_int, over_length, over_copy, if_stmt, for_stmt, range, next, wide, all_wide, value_widths}
 use Rattle.typed.specs.View.{left_of, piece_of, site_in, st_of, sts_of}
 use Rattle.codegen.specs.Frame.{assign_code, bump_code, key_code, left_code, param_code, temp_behind, turn_code, update_code}

@@ -2,7 +2,7 @@
 use Rattle.std.proofs.Common.{◌≡◌, ◌⊎◌, inl, inr, ℕ, zero, suc, ◌+◌, ◌-◌, ◌<◌, ◌≤◌, Bool, true, false, List, [], ◌∷◌, ◌++◌, length, map, Some, refl, sym, ap, ◌∙◌, subst, arith, length-append, append_assoc}
 use Rattle.std.specs.Prelude.{Option, None, slice_get, ⊤}
 use Rattle.std.proofs.lemmas.Option.{slice_get_within}
-use Rattle.isa.specs.Code.{Tables, AddedFits, CanCall, Fits as FitsAt, FitsPlace, IsCode, IsLinked}
+use Rattle.isa.specs.Code.{AddedFits, CanCall, Fits as FitsAt, FitsPlace, IsCode, IsLinked}
 use Rattle.isa.specs.declared.func.Func.{Func as Entry}
 use Rattle.isa.specs.declared.instr.Instr.{Instr}
 use Rattle.isa.specs.declared.instr.BinOp.TheVariants as Word
@@ -15,7 +15,8 @@ use Rattle.typed_syntax.specs.Types.{TypeTree, ints, bools, struct_of, array_of,
 use Rattle.typed_syntax.specs.Paths.{offset}
 use Rattle.typed_syntax.specs.Syntax.{Ex, Exs, Steps, here, inner, at_index, Pl, Left, Piece, St, Sts, Func, Program, constant, read, unary, binary, logical_and, logical_or, call, part_of, literal, Elements, no_elements, element, local, global, none, more, results, read_int, blank, new, to, text, shown, over_int, over_length, over_copy, declare, assign, update, bump, discard, block, if_stmt, for_stmt, range, break_stmt, continue_stmt, return_stmt, print, panic, exit, done, next, all_width, each_width, arguments_in, results_in, argument_words, result_words, arguments_of, results_of, type_named, site_width, path_of, wide, all_wide, value_widths, ascend, words_through, gap_behind}
 use Rattle.typed_syntax.specs.Form.{scope_in, body_first, IsInForm}
-use Rattle.typed_syntax.specs.Frames.{far, steps_far, words_between, frame_of}
+use Rattle.frames.specs.Placement.{Placement, IsPlaced}
+use Rattle.frames.specs.Frames.{far, steps_far, cells_between, words_between, frame_of}
 use Rattle.expression_code.specs.Temps.{SiteFits, IndicesFit, PlaceFits, AddressFits, reached, CallFits, Fits, OperandsFit, StepsFitIn, ElementsFitIn, ExsFitIn}
 use Rattle.codegen.specs.Temps.{SitesFit, sites_words, ParamsFitIn, LeftFits, LeftsFitIn, ValuesFit, RenewFits, ReadyFitIn, PiecesFitIn, TestFitsIn, StFitsIn, StsFitIn, FuncFitsIn}
 use Rattle.program_code.specs.Code.{Slots, temp, site_slot, site_type, global_type, part_slot, part_words, moves, zeros, first_width, other_widths, operation, binary_code, unary_code, gap_code, gap_size, above_address, steps_above, place_above, lefts_above, index_code, steps_address, address_code, address_size, fetch_part, fetch_code, land_part, land_code, read_code, write_code, move_code, result_code, call_code, ex_code, exs_code, place_code, steps_code, elements_code, ready_code, place_size, steps_size, place_end, elements_size, lefts_sized, lefts_end, pieces_code, test_code, shown_code, raised_code, show_more, show_plain, show_code, lefts_code, lefts_size, element_code, array_code, named_write_code, named_read_code, leave_code, values_code, params_code, zeros_code, renew_code, renew_size, size, exs_size, pieces_size, test_size, st_size, sts_size, st_code, sts_code, slots_of, entry_code, entry_size, func_code, func_size, entry_of, funcs_code, funcs_owners, funcs_entries, code_of}
@@ -74,13 +75,13 @@ module _ (fns : List Entry) (strings slots incoming start end : ℕ) where
   All (i ∷ is) = Ok i × All is
 
 -- the code of a function of which these are the slots
-module _ (p : Program) (solid : (site : ℕ) → 0 < site_width p site) (outgoing temps first n : ℕ) (fns : List Entry) (strings arguments wanted start end : ℕ)
-    (can : (f : ℕ) → f < length p.funcs → arguments_of p f + results_of p f ≤ outgoing → CanCall fns (outgoing + temps + words_between p.sites first n) f) where
+module _ (p : Program) (solid : (site : ℕ) → 0 < site_width p site) (pl : Placement) (outgoing temps first n : ℕ) (fns : List Entry) (strings arguments wanted start end : ℕ)
+    (can : (f : ℕ) → f < length p.funcs → arguments_of p f + results_of p f ≤ outgoing → CanCall fns (outgoing + temps + (cells_between pl first n + words_between pl p.sites first n)) f) where
   abbrev s : Slots
-  s = record { outgoing = outgoing; temps = temps; first = first; sites = p.sites; globals = map (λ g. g.0) p.globals }
+  s = record { outgoing = outgoing; temps = temps; first = first; count = n; placement = pl; sites = p.sites; globals = map (λ g. g.0) p.globals }
 
   abbrev room : ℕ
-  room = outgoing + temps + words_between p.sites first n
+  room = outgoing + temps + (cells_between pl first n + words_between pl p.sites first n)
 
   abbrev Are : List Instr → Type 0
   Are is = All fns strings room (arguments + wanted) start end is
@@ -583,92 +584,92 @@ module _ (owners : List ℕ) (f start end : ℕ) (own : (p : ℕ) → start ≤ 
   fits_at place slots incoming (PanicInt a) k (inr g) = k
   fits_at place slots incoming (PanicBool a) k (inr g) = k
 
-pub all_fit : (p : Program) → IsInForm p → (f : ℕ) (func : Func) → slice_get p.funcs f ≡ Some func → FuncFitsIn p func
-all_fit p form f func is = func_fits p func form (form.fits f func is)
+pub all_fit : (p : Program) (pl : Placement) → IsInForm p → IsPlaced p pl → (f : ℕ) (func : Func) → slice_get p.funcs f ≡ Some func → FuncFitsIn p pl func
+all_fit p pl form placed f func is = func_fits p pl func form (form.fits f func is) (placed.stacked f func is)
 
 unlike : false ≡ true → ⊥
 unlike e = cc
 
-module _ (p : Program) (form : IsInForm p) where
+module _ (p : Program) (pl : Placement) (form : IsInForm p) (placed : IsPlaced p pl) where
   abbrev strings : ℕ
   strings = length p.strings
 
   abbrev instrs : List Instr
-  instrs = funcs_code p p.funcs 0
+  instrs = funcs_code p pl p.funcs 0
 
   abbrev owners : List ℕ
   owners = funcs_owners p p.funcs 0
 
   abbrev fns : List Entry
-  fns = funcs_entries p p.funcs 0
+  fns = funcs_entries p pl p.funcs 0
 
   can : (slots outgoing : ℕ) → outgoing ≤ slots → (f : ℕ) → f < length p.funcs → arguments_of p f + results_of p f ≤ outgoing → CanCall fns slots f
   can slots outgoing wide f there room =
-      let (func, is) = exists p p.funcs f there in
-      let r = stands p p.funcs 0 0 f func is in
+      let (func, is) = exists p pl p.funcs f there in
+      let r = stands p pl p.funcs 0 0 f func is in
       let a : arguments_of p f ≡ argument_words func = ap arguments_in is in
       let b : results_of p f ≡ result_words func = ap results_in is in
-      record { fn = entry_of p func (0 + start_of p p.funcs f); is = r.entry; room = omega (arith, a, b, room, wide) }
+      record { fn = entry_of p pl func (0 + start_of p pl p.funcs f); is = r.entry; room = omega (arith, a, b, room, wide) }
 
-  func_ok : (func : Func) (pc : ℕ) → FuncFitsIn p func → StsWithin strings false func.body → All fns strings (frame_of p func - 2) (argument_words func + result_words func) pc (pc + func_size p func) (func_code p func pc)
+  func_ok : (func : Func) (pc : ℕ) → FuncFitsIn p pl func → StsWithin strings false func.body → All fns strings (frame_of p pl func - 2) (argument_words func + result_words func) pc (pc + func_size p func) (func_code p pl func pc)
   func_ok func pc ok within =
-      let s = slots_of p func in let n = func.count in let m = argument_words func in let long = words_between p.sites func.first func.count in
-      let slots : s.outgoing + s.temps + long ≡ frame_of p func - 2 = omega arith in
+      let s = slots_of p pl func in let n = func.count in let m = argument_words func in let long = cells_between pl func.first func.count + words_between pl p.sites func.first func.count in
+      let slots : s.outgoing + s.temps + long ≡ frame_of p pl func - 2 = omega arith in
       let end = pc + func_size p func in
       let can_call = can (s.outgoing + s.temps + long) s.outgoing (omega arith) in
       let body = sts_code p m func.named s func.body 0 0 0 (pc + entry_size p func) in let leave = leave_code s m func.named in
       let params = params_code s (each_width func.param_types) func.params 0 in let zeros = zeros_code s func.named in
-      let entry = join p form.solid s.outgoing s.temps func.first n fns strings m (result_words func) pc end can_call params zeros
-      (params_ok p form.solid s.outgoing s.temps func.first n fns strings m (result_words func) pc end can_call func.param_types func.params 0 ok.params (omega arith))
-      (zeros_ok p form.solid s.outgoing s.temps func.first n fns strings m (result_words func) pc end can_call func.named ok.named) in
-      let inner = sts_ok p form.solid s.outgoing s.temps func.first n fns strings m (result_words func) pc end can_call func.named ok.named ok.names false func.body 0 0 0 (pc + entry_size p func) ok.body within (λ e. absurd (unlike e)) (omega arith) (omega arith) in
-      let last = leave_ok p form.solid s.outgoing s.temps func.first n fns strings m (result_words func) pc end can_call func.named ok.named ok.names in
-      subst (λ k. All fns strings k (m + result_words func) pc end (func_code p func pc)) slots
-      (join p form.solid s.outgoing s.temps func.first n fns strings m (result_words func) pc end can_call (params ++ zeros) (body ++ leave) entry
-      (join p form.solid s.outgoing s.temps func.first n fns strings m (result_words func) pc end can_call body leave inner last))
+      let entry = join p form.solid pl s.outgoing s.temps func.first n fns strings m (result_words func) pc end can_call params zeros
+      (params_ok p form.solid pl s.outgoing s.temps func.first n fns strings m (result_words func) pc end can_call func.param_types func.params 0 ok.params (omega arith))
+      (zeros_ok p form.solid pl s.outgoing s.temps func.first n fns strings m (result_words func) pc end can_call func.named ok.named) in
+      let inner = sts_ok p form.solid pl s.outgoing s.temps func.first n fns strings m (result_words func) pc end can_call func.named ok.named ok.names false func.body 0 0 0 (pc + entry_size p func) ok.body within (λ e. absurd (unlike e)) (omega arith) (omega arith) in
+      let last = leave_ok p form.solid pl s.outgoing s.temps func.first n fns strings m (result_words func) pc end can_call func.named ok.named ok.names in
+      subst (λ k. All fns strings k (m + result_words func) pc end (func_code p pl func pc)) slots
+      (join p form.solid pl s.outgoing s.temps func.first n fns strings m (result_words func) pc end can_call (params ++ zeros) (body ++ leave) entry
+      (join p form.solid pl s.outgoing s.temps func.first n fns strings m (result_words func) pc end can_call body leave inner last))
 
   within : (f : ℕ) (func : Func) → slice_get p.funcs f ≡ Some func → StsWithin strings false func.body
   within f func is = sts_within p func.results (length func.named) false (scope_in func) (body_first func) (func.first + func.count) func.body (form.fits f func is).body
 
-  own : (f : ℕ) (func : Func) → slice_get p.funcs f ≡ Some func → (place : ℕ) → start_of p p.funcs f ≤ place → place < start_of p p.funcs f + func_size p func → slice_get owners place ≡ Some f
+  own : (f : ℕ) (func : Func) → slice_get p.funcs f ≡ Some func → (place : ℕ) → start_of p pl p.funcs f ≤ place → place < start_of p pl p.funcs f + func_size p func → slice_get owners place ≡ Some f
   own f func is place a b =
-      let r = stands p p.funcs 0 0 f func is in
-      let z : start_of p p.funcs f + (place - start_of p p.funcs f) ≡ place = omega (arith, a) in
+      let r = stands p pl p.funcs 0 0 f func is in
+      let z : start_of p pl p.funcs f + (place - start_of p pl p.funcs f) ≡ place = omega (arith, a) in
       let y : 0 + f ≡ f = omega arith in
-      ap (λ q. slice_get owners q) (sym z) ∙ r.owned (place - start_of p p.funcs f) (omega (arith, a, b)) ∙ ap (λ q. Some q) y
+      ap (λ q. slice_get owners q) (sym z) ∙ r.owned (place - start_of p pl p.funcs f) (omega (arith, a, b)) ∙ ap (λ q. Some q) y
 
   fits_place : (place : ℕ) (i : Instr) → slice_get instrs place ≡ Some i → FitsPlace owners fns strings place i
   fits_place place i h =
-      let r = located p p.funcs 0 place (slice_get_within instrs place i h) in
-      let start = start_of p p.funcs r.k in
-      let st = stands p p.funcs 0 0 r.k r.func r.is in
+      let r = located p pl p.funcs 0 place (slice_get_within instrs place i h) in
+      let start = start_of p pl p.funcs r.k in
+      let st = stands p pl p.funcs 0 0 r.k r.func r.is in
       let z : 0 + start ≡ start = omega arith in
-      let there : slice_get (func_code p r.func start) r.p ≡ Some i =
-      ap (λ q. slice_get (func_code p r.func q) r.p) (sym z) ∙ sym (st.code r.p r.within) ∙ ap (λ q. slice_get instrs q) (sym r.at) ∙ h in
-      let s = slots_of p r.func in
-      let next = ends_so (entry_code p r.func) (sts_code p (argument_words r.func) r.func.named s r.func.body 0 0 0 (start + entry_size p r.func)) (named_read_code s r.func.named (argument_words r.func)) r.p i there in
+      let there : slice_get (func_code p pl r.func start) r.p ≡ Some i =
+      ap (λ q. slice_get (func_code p pl r.func q) r.p) (sym z) ∙ sym (st.code r.p r.within) ∙ ap (λ q. slice_get instrs q) (sym r.at) ∙ h in
+      let s = slots_of p pl r.func in
+      let next = ends_so (entry_code p pl r.func) (sts_code p (argument_words r.func) r.func.named s r.func.body 0 0 0 (start + entry_size p r.func)) (named_read_code s r.func.named (argument_words r.func)) r.p i there in
       record {
         f = r.k;
-        fn = entry_of p r.func start;
+        fn = entry_of p pl r.func start;
         owner = own r.k r.func r.is place (let e = r.at in omega (arith, e)) (let e = r.at in let w = r.within in omega (arith, e, w));
-        is = st.entry ∙ ap (λ q. Some (entry_of p r.func q)) z;
-        fits = fits_at owners r.k start (start + func_size p r.func) (own r.k r.func r.is) fns strings place (frame_of p r.func - 2) (argument_words r.func + result_words r.func) i
-            (all_at fns strings (frame_of p r.func - 2) (argument_words r.func + result_words r.func) start (start + func_size p r.func) (func_code p r.func start) r.p i (func_ok r.func start (all_fit p form r.k r.func r.is) (within r.k r.func r.is)) there)
+        is = st.entry ∙ ap (λ q. Some (entry_of p pl r.func q)) z;
+        fits = fits_at owners r.k start (start + func_size p r.func) (own r.k r.func r.is) fns strings place (frame_of p pl r.func - 2) (argument_words r.func + result_words r.func) i
+            (all_at fns strings (frame_of p pl r.func - 2) (argument_words r.func + result_words r.func) start (start + func_size p r.func) (func_code p pl r.func start) r.p i (func_ok r.func start (all_fit p pl form placed r.k r.func r.is) (within r.k r.func r.is)) there)
             (elim next [
               | inl e ↦ inl e
-              | inr l ↦ inr (own r.k r.func r.is (place + 1) (let e = r.at in omega (arith, e)) (let e = r.at in omega (arith, e, l, length_func p r.func start)))
+              | inr last ↦ inr (own r.k r.func r.is (place + 1) (let e = r.at in omega (arith, e)) (let e = r.at in omega (arith, e, last, length_func p pl r.func start)))
             ]);
       }
 
   linked : (f : ℕ) (fn : Entry) → slice_get fns f ≡ Some fn → IsLinked owners f fn
   linked f fn e =
-      let (func, is) = entered_from p p.funcs 0 f fn e in
-      let start = start_of p p.funcs f in
-      let r = stands p p.funcs 0 0 f func is in
+      let (func, is) = entered_from p pl p.funcs 0 f fn e in
+      let start = start_of p pl p.funcs f in
+      let r = stands p pl p.funcs 0 0 f func is in
       let z : 0 + start ≡ start = omega arith in
-      let same : entry_of p func start ≡ fn = same_some (ap (λ q. Some (entry_of p func q)) (sym z) ∙ sym r.entry ∙ e) in
+      let same : entry_of p pl func start ≡ fn = same_some (ap (λ q. Some (entry_of p pl func q)) (sym z) ∙ sym r.entry ∙ e) in
       subst (λ (g : Entry). IsLinked owners f g) same
-      (record { frame = omega arith; start = own f func is start (omega arith) (let l = some_size p func in omega (arith, l)) })
+      (record { frame = omega arith; start = own f func is start (omega arith) (let some = some_size p pl func in omega (arith, some)) })
 
-  pub is_code : IsCode (code_of p)
-  is_code = record { same = length_owners p p.funcs 0 0; fits = fits_place; linked = linked }
+  pub is_code : IsCode (code_of p pl)
+  is_code = record { same = length_owners p pl p.funcs 0 0; fits = fits_place; linked = linked }

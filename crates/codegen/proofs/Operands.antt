@@ -1,7 +1,7 @@
 -- Temps above the operands of places and left sides, and above an address.
 use Rattle.std.proofs.Common.{◌≡◌, ℕ, ◌+◌, ◌≤◌, List, [], ◌∷◌, arith}
 use Rattle.typed_syntax.specs.Syntax.{Program, Pl, Steps, Left, local, global, here, inner, at_index, blank, new, to}
-use Rattle.typed_syntax.specs.Frames.{far, steps_far}
+use Rattle.frames.specs.Frames.{far, steps_far}
 use Rattle.program_code.specs.Code.{above_address, place_above, lefts_above}
 use Rattle.program_code.proofs.Rooms.{place_from}
 

@@ -10,7 +10,8 @@ use Rattle.typed_syntax.specs.Paths.{Leads}
 use Rattle.value_laws.proofs.Parts.{element, leads_to, within}
 use Rattle.typed_syntax.specs.Syntax.{Ex, Exs, Pl, Steps, Left, Piece, St, Sts, Func, Program, constant, read, unary, binary, logical_and, logical_or, call, part_of, literal, Elements, no_elements, element as element_then, local, global, here, inner, at_index, none, more, results, read_int, blank, new, to, text, shown, over_int, over_length, over_copy, declare, assign, update, bump, discard, block, if_stmt, for_stmt, range, break_stmt, continue_stmt, return_stmt, print, panic, exit, done, next, all_width, each_width, arguments_in, result_words, arguments_of, results_of, type_named, global_type, site_type, site_width, path_of, wide, all_wide, ascend, words_before}
 use Rattle.typed_syntax.specs.Form.{PlFits, StepsLead, ElementsFit, InScope, AllInScope, births, births_all, new_sites, scope_behind, scope_with, scope_after, SitesNext, LeftsFit, ExFits, ExsFit, TestFits, PiecesFit, ReturnFits, StFits, StsFit, ParamsFit, NamedFit, named_params, params_scope, scope_in, body_first, FuncFits, IsInForm}
-use Rattle.typed_syntax.specs.Frames.{far, left_far, lefts_far, behind_values, place_need, steps_need, elements_need, lefts_need, place_reach, steps_reach, elements_reach, lefts_reach, need, need_all, need_pieces, reach, reach_all, reach_pieces, test_need, test_reach, widest, st_need, sts_need, st_reach, sts_reach}
+use Rattle.frames.specs.Placement.{Placement}
+use Rattle.frames.specs.Frames.{far, left_far, lefts_far, behind_values, place_need, steps_need, elements_need, lefts_need, place_reach, steps_reach, elements_reach, lefts_reach, need, need_all, need_pieces, reach, reach_all, reach_pieces, test_need, test_reach, widest, st_need, sts_need, st_reach, sts_reach}
 use Rattle.program_code.specs.Code.{Slots, other_widths, part_words, global_type as variable_type, global_words, above_address, place_above, lefts_above, slots_of}
 use Rattle.program_code.proofs.Rooms.{address_room, array_room, key_alone, key_room, lefts_others, lefts_room, place_others, place_room}
 use Rattle.program_code.proofs.Wide.{plain_one, takes_some, takes_one, place_is_of, wide_is, all_wide_is, widths_are}
@@ -18,7 +19,11 @@ use Rattle.expression_code.specs.Temps.{SiteFits, IndicesFit, PlaceFits, CallFit
 use Rattle.codegen.specs.Temps.{SitesFit, ParamsFitIn, LeftFits, left_words, LeftsFitIn, ValuesFit, RenewFits, ReadyFitIn, PiecesFitIn, TestFitsIn, StFitsIn, StsFitIn, FuncFitsIn, sites_words}
 use Rattle.codegen.proofs.Operands.{above_sum}
 
--- the sites in scope are among the n of a frame
+-- the variables of the n sites of a frame live in it
+abbrev pub Stay : Slots → ℕ → Type 0
+Stay s n = (site : ℕ) → s.first ≤ site → site < s.first + n → s.placement.on_heap site ≡ false
+
+-- the sites in scope are among them
 abbrev pub Below : Slots → ℕ → List ℕ → Type 0
 Below s n scope = (v : ℕ) → InScope v scope → SiteFits s n v
 
@@ -35,12 +40,11 @@ sites_below : (s : Slots) (n : ℕ) (scope sites : List ℕ) → Below s n scope
 sites_below s n scope [] b f = tt
 sites_below s n scope (site ∷ sites) b f = (b site f.0, sites_below s n scope sites b f.1)
 
-next_fit : (s : Slots) (n m : ℕ) (sites : List ℕ) → s.first ≤ m → SitesNext m (s.first + n) sites → SitesFit s n sites
-next_fit s n m [] a f = tt
-next_fit s n m (site ∷ sites) a f = (
-  ((let e = f.0 in omega (arith, e)), (let e = f.0 in let k = f.1 in omega (arith, e, k))),
-  next_fit s n (suc m) sites (omega arith) f.2,
-)
+next_fit : (s : Slots) (n m : ℕ) (sites : List ℕ) → Stay s n → s.first ≤ m → SitesNext m (s.first + n) sites → SitesFit s n sites
+next_fit s n m [] stay a f = tt
+next_fit s n m (site ∷ sites) stay a f =
+    let from : s.first ≤ site = (let e = f.0 in omega (arith, e)) in
+    let behind : site < s.first + n = (let e = f.0 in let k = f.1 in omega (arith, e, k)) in ((from, behind, stay site from behind), next_fit s n (suc m) sites stay (omega arith) f.2)
 
 -- a part is within its whole
 part_within : (t : TypeTree) (i : ℕ) → i < part_count t → part_offset t i + width (part_type t i) ≤ width t
@@ -100,9 +104,13 @@ module _ (p : Program) (form : IsInForm p) where
   some_need scope t e one f = let l = wide_need scope t e f in let w = wide_is p scope t e f in omega arith
 
   -- the frame's slots
-  module _ (outgoing temps first n : ℕ) where
+  module _ (pl : Placement) (outgoing temps first n : ℕ) (stay : (site : ℕ) → first ≤ site → site < first + n → pl.on_heap site ≡ false) where
     abbrev s : Slots
-    s = record { outgoing = outgoing; temps = temps; first = first; sites = p.sites; globals = map (λ g. g.0) p.globals }
+    s = record { outgoing = outgoing; temps = temps; first = first; count = n; placement = pl; sites = p.sites; globals = map (λ g. g.0) p.globals }
+
+    -- the next site
+    next_fits : (m site : ℕ) → first ≤ m → site ≡ m → m < first + n → SiteFits s n site
+    next_fits m site a is last = let from : first ≤ site = omega (arith, a, is) in let behind : site < first + n = omega (arith, is, last) in (from, behind, stay site from behind)
 
     -- the type of a package variable, by its site
     same_global : (g : ℕ) → variable_type s g ≡ global_type p g
@@ -244,7 +252,7 @@ module _ (p : Program) (form : IsInForm p) where
     lefts_fit at h scope m (t ∷ ts) (blank ∷ ls) a b f l k = (omega arith, tt, omega arith, lefts_fit at (h + width t) scope m ts ls a b f (omega arith) (omega arith))
     lefts_fit at h scope m (t ∷ ts) (new site ∷ ls) a b f l k = (
       omega arith,
-      ((let e = f.0 in omega (arith, e)), (let e = f.0 in let u = f.1 in omega (arith, e, u))),
+      next_fits m site a f.0 f.1,
       (let e = ap width f.2 in omega (arith, e)),
       lefts_fit at (h + width t) scope (suc m) ts ls (omega arith) b f.3 (omega arith) (omega arith),
     )
@@ -270,7 +278,7 @@ module _ (p : Program) (form : IsInForm p) where
     -- one left side for a number
     key_fits : (at : ℕ) (scope : List ℕ) (m : ℕ) (key : Left) → first ≤ m → Below s n scope → LeftsFit p scope m (first + n) (ints ∷ []) (key ∷ []) → at + left_far key ≤ temps → LeftFits s n at key × (left_words s key ≤ 1)
     key_fits at scope m blank a b f l = (tt, omega arith)
-    key_fits at scope m (new site) a b f l = (((let e = f.0 in omega (arith, e)), (let e = f.0 in let u = f.1 in omega (arith, e, u))), (let e = ap width f.2 in omega (arith, e)))
+    key_fits at scope m (new site) a b f l = (next_fits m site a f.0 f.1, (let e = ap width f.2 in omega (arith, e)))
     key_fits at scope m (to q) a b f l = ((place_fits scope ints q b f.0, l), reached_is scope ints q f.0)
 
     below_behind : (m : ℕ) (scope around : List ℕ) (ts : List TypeTree) (ls : List Left) → first ≤ m → Below s n scope → LeftsFit p around m (first + n) ts ls → Below s n (scope_behind scope ls)
@@ -278,7 +286,7 @@ module _ (p : Program) (form : IsInForm p) where
     below_behind m scope around [] (left ∷ ls) a b f = absurd f
     below_behind m scope around (t ∷ ts) (blank ∷ ls) a b f = below_behind m scope around ts ls a b f
     below_behind m scope around (t ∷ ts) (new site ∷ ls) a b f =
-        below_behind (suc m) (site ∷ scope) around ts ls (omega arith) (below_more s n site scope ((let e = f.0 in omega (arith, e)), (let e = f.0 in let k = f.1 in omega (arith, e, k))) b) f.3
+        below_behind (suc m) (site ∷ scope) around ts ls (omega arith) (below_more s n site scope (next_fits m site a f.0 f.1) b) f.3
     below_behind m scope around (t ∷ ts) (to q ∷ ls) a b f = below_behind m scope around ts ls a b f.1
 
     -- results with names have their words
@@ -288,7 +296,7 @@ module _ (p : Program) (form : IsInForm p) where
 
     module _ (wanted : List TypeTree) (named : List ℕ) where
       below_after : (looped : Bool) (m : ℕ) (scope : List ℕ) (t : St) → first ≤ m → Below s n scope → StFits p wanted (length named) looped scope m (first + n) t → Below s n (scope_after scope t)
-      below_after looped m scope (declare sites) a b f = below_with s n scope sites b (next_fit s n m sites a f)
+      below_after looped m scope (declare sites) a b f = below_with s n scope sites b (next_fit s n m sites stay a f)
       below_after looped m scope (assign ls es) a b f = below_behind m scope scope f.0 ls a b f.1
       below_after looped m scope (update at q op e) a b f = b
       below_after looped m scope (bump at q op) a b f = b
@@ -331,7 +339,7 @@ module _ (p : Program) (form : IsInForm p) where
 
         mutual
           st_fits : (looped : Bool) (h m : ℕ) (scope : List ℕ) (t : St) → first ≤ m → Below s n scope → StFits p wanted (length named) looped scope m (first + n) t → h + st_need p named t ≤ temps → st_reach p t ≤ outgoing → StFitsIn p s n (all_width wanted) named h t
-          st_fits looped h m scope (declare sites) a b f k o = next_fit s n m sites a f
+          st_fits looped h m scope (declare sites) a b f k o = next_fit s n m sites stay a f
           st_fits looped h m scope (assign ls es) a b (ts, lefts, fit) k o =
               let words = all_wide_is p scope ts es fit in let values = lefts_above ls h in
               let behind = max (need_all p es) (behind_values (all_wide p es) (lefts_far ls)) in
@@ -401,7 +409,7 @@ module _ (p : Program) (form : IsInForm p) where
               let ls = key ∷ value ∷ [] in let v = lefts_above ls (h + 1) in let w = width (part_type (site_type p site) 0) in
               let behind = max (1 + w) (behind_values (1 + w) (lefts_far ls)) in
               let room = lefts_room p temps (h + 1) behind ls (omega arith) in let calls = lefts_others p (sts_reach p body) ls in
-              let own : SiteFits s n site = (omega (arith, place, a), within_n) in
+              let from : first ≤ site = omega (arith, place, a) in let own : SiteFits s n site = (from, within_n, stay site from within_n) in
               let around = below_more s n site scope own b in
               let some : 0 < x = array_some x r (subst (λ u. 0 < width u) is (form.solid site)) in
               let same : w ≡ width r = ap width (ap (λ u. part_type u 0) is ∙ ((element x r r 0 [] some).leads refl).1) in
@@ -433,41 +441,46 @@ module _ (p : Program) (form : IsInForm p) where
               (st_fits looped h m scope x a b f.0 (omega arith) (omega arith), sts_fit looped h (m + births x) (scope_after scope x) xs (omega arith) (below_after looped m scope x a b f.0) f.1 (omega arith) (omega arith))
 
 -- parameters and results with names are sites of the frame
-params_fit : (p : Program) (f : Func) (m : ℕ) (ts : List TypeTree) (ps : List (Option ℕ)) → f.first ≤ m → m + named_params ps ≤ f.first + f.count → ParamsFit p m ts ps → ParamsFitIn (slots_of p f) f.count (each_width ts) ps
-params_fit p f m ts [] a l fit = tt
-params_fit p f m [] (None ∷ ps) a l fit = absurd fit
-params_fit p f m [] (Some site ∷ ps) a l fit = absurd fit
-params_fit p f m (t ∷ ts) (None ∷ ps) a l fit = (tt, tt, params_fit p f m ts ps a l fit)
-params_fit p f m (t ∷ ts) (Some site ∷ ps) a l fit =
-    (((let e = fit.0 in omega (arith, e)), (let e = fit.0 in omega (arith, e))), ap width fit.1, params_fit p f (suc m) ts ps (omega arith) (omega arith) fit.2)
+params_fit : (p : Program) (pl : Placement) (f : Func) (m : ℕ) (ts : List TypeTree) (ps : List (Option ℕ)) → Stay (slots_of p pl f) f.count → f.first ≤ m → m + named_params ps ≤ f.first + f.count → ParamsFit p m ts ps
+    → ParamsFitIn (slots_of p pl f) f.count (each_width ts) ps
+params_fit p pl f m ts [] stay a b fit = tt
+params_fit p pl f m [] (None ∷ ps) stay a b fit = absurd fit
+params_fit p pl f m [] (Some site ∷ ps) stay a b fit = absurd fit
+params_fit p pl f m (t ∷ ts) (None ∷ ps) stay a b fit = (tt, tt, params_fit p pl f m ts ps stay a b fit)
+params_fit p pl f m (t ∷ ts) (Some site ∷ ps) stay a b fit =
+    let from : f.first ≤ site = (let e = fit.0 in omega (arith, e)) in
+    let behind : site < f.first + f.count = (let e = fit.0 in omega (arith, e)) in ((from, behind, stay site from behind), ap width fit.1, params_fit p pl f (suc m) ts ps stay (omega arith) (omega arith) fit.2)
 
-named_fit : (p : Program) (s : Slots) (n m : ℕ) (sites : List ℕ) → s.first ≤ m → m + length sites ≤ s.first + n → NamedFit p m sites → SitesFit s n sites
-named_fit p s n m [] a l f = tt
-named_fit p s n m (site ∷ sites) a l f = (((let e = f.0 in omega (arith, e)), (let e = f.0 in omega (arith, e))), named_fit p s n (suc m) sites (omega arith) (omega arith) f.1)
+named_fit : (p : Program) (s : Slots) (n m : ℕ) (sites : List ℕ) → Stay s n → s.first ≤ m → m + length sites ≤ s.first + n → NamedFit p m sites → SitesFit s n sites
+named_fit p s n m [] stay a l f = tt
+named_fit p s n m (site ∷ sites) stay a l f =
+    let from : s.first ≤ site = (let e = f.0 in omega (arith, e)) in
+    let behind : site < s.first + n = (let e = f.0 in omega (arith, e)) in ((from, behind, stay site from behind), named_fit p s n (suc m) sites stay (omega arith) (omega arith) f.1)
 
 below_params : (s : Slots) (n : ℕ) (scope ns : List ℕ) (ps : List (Option ℕ)) → Below s n scope → ParamsFitIn s n ns ps → Below s n (params_scope scope ps)
 below_params s n scope ns [] b f = b
 below_params s n scope ns (None ∷ ps) b f = below_params s n scope (other_widths ns) ps b f.2
 below_params s n scope ns (Some site ∷ ps) b f = below_params s n (site ∷ scope) (other_widths ns) ps (below_more s n site scope f.0 b) f.2
 
-names_are : (p : Program) (f : Func) → IsInForm p → FuncFits p f → (f.named ≡ []) ⊎ (sites_words (slots_of p f) f.named ≡ result_words f)
-names_are p f form fit = elim fit.names [ inl e ↦ inl e | inr e ↦ inr (names_words p form (slots_of p f).outgoing (slots_of p f).temps f.first f.count f.named ∙ ap all_width e) ]
+names_are : (p : Program) (pl : Placement) (f : Func) → IsInForm p → FuncFits p f → Stay (slots_of p pl f) f.count → (f.named ≡ []) ⊎ (sites_words (slots_of p pl f) f.named ≡ result_words f)
+names_are p pl f form fit stay =
+    let s = slots_of p pl f in elim fit.names [ inl e ↦ inl e | inr e ↦ inr (names_words p form pl s.outgoing s.temps f.first f.count stay f.named ∙ ap all_width e) ]
 
 names_fit : (s : Slots) (named : List ℕ) (wanted : ℕ) → (named ≡ []) ⊎ (sites_words s named ≡ wanted) → sites_words s named ≤ wanted
 names_fit s named wanted (inl e) = let q = ap (sites_words s) e in omega (arith, q)
 names_fit s named wanted (inr e) = omega (arith, e)
 
-pub func_fits : (p : Program) (f : Func) → IsInForm p → FuncFits p f → FuncFitsIn p f
-func_fits p f form fit =
-    let s = slots_of p f in
-    let params = params_fit p f f.first f.param_types f.params (omega arith) (omega (arith, fit.count)) fit.params in
-    let named = named_fit p s f.count (f.first + named_params f.params) f.named (omega arith) (omega (arith, fit.count)) fit.named in
+pub func_fits : (p : Program) (pl : Placement) (f : Func) → IsInForm p → FuncFits p f → Stay (slots_of p pl f) f.count → FuncFitsIn p pl f
+func_fits p pl f form fit stay =
+    let s = slots_of p pl f in
+    let params = params_fit p pl f f.first f.param_types f.params stay (omega arith) (omega (arith, fit.count)) fit.params in
+    let named = named_fit p s f.count (f.first + named_params f.params) f.named stay (omega arith) (omega (arith, fit.count)) fit.named in
     let scope = below_with s f.count (params_scope [] f.params) f.named (below_params s f.count [] (each_width f.param_types) f.params (λ v i. absurd i) params) named in
-    let names = names_are p f form fit in
+    let names = names_are p pl f form fit stay in
     record {
       params = params;
       named = named;
       names = names_fit s f.named (result_words f) names;
-      body = sts_fit p form s.outgoing s.temps f.first f.count f.results f.named names false 0 (body_first f) (scope_in f) f.body (omega arith) scope fit.body (omega arith) (omega arith);
+      body = sts_fit p form pl s.outgoing s.temps f.first f.count stay f.results f.named names false 0 (body_first f) (scope_in f) f.body (omega arith) scope fit.body (omega arith) (omega arith);
       small = fit.small;
     }

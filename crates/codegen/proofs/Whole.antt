@@ -16,7 +16,8 @@ use Rattle.typed.specs.View.{func_of, program_of}
 use Rattle.typed_syntax.specs.Form.{IsInForm}
 use Rattle.frame_layout.specs.declared.layout.FrameLayout.{FrameLayout}
 use Rattle.frame_layout.specs.Layout.{layout_in, layouts}
-use Rattle.typed_syntax.specs.Frames.{outgoing_of, temps_of}
+use Rattle.frames.specs.Placement.{Placement, IsPlaced}
+use Rattle.frames.specs.Frames.{outgoing_of, temps_of}
 use Rattle.expression_code.specs.Frame.{func_in, globals_in, sites_in}
 use Rattle.expression_code.proofs.Variables.{globals_are}
 use Rattle.codegen.specs.Temps.{FuncFitsIn}
@@ -25,15 +26,15 @@ use Rattle.program_code.proofs.Sizes.{length_entry, length_func}
 use Rattle.codegen.proofs.IsCode.{all_fit}
 
 -- a function's parts, one after the other
-pub func_emitted : (p : Program) (f : Func) (s : Slots) (old c1 c2 c3 c4 : List Instr) → s ≡ slots_of p f → c1 ≡ old ++ params_code s (each_width f.param_types) f.params 0 → c2 ≡ c1 ++ zeros_code s f.named
-    → c3 ≡ c2 ++ sts_code p (argument_words f) f.named s f.body 0 0 0 (length c2) → c4 ≡ c3 ++ leave_code s (argument_words f) f.named → c4 ≡ old ++ func_code p f (length old)
-func_emitted p f s old c1 c2 c3 c4 same e1 e2 e3 e4 =
+pub func_emitted : (p : Program) (pl : Placement) (f : Func) (s : Slots) (old c1 c2 c3 c4 : List Instr) → s ≡ slots_of p pl f → c1 ≡ old ++ params_code s (each_width f.param_types) f.params 0 → c2 ≡ c1 ++ zeros_code s f.named
+    → c3 ≡ c2 ++ sts_code p (argument_words f) f.named s f.body 0 0 0 (length c2) → c4 ≡ c3 ++ leave_code s (argument_words f) f.named → c4 ≡ old ++ func_code p pl f (length old)
+func_emitted p pl f s old c1 c2 c3 c4 same e1 e2 e3 e4 =
     let m = argument_words f in
     let params = params_code s (each_width f.param_types) f.params 0 in let zeros = zeros_code s f.named in let leave = leave_code s m f.named in
     let here = length old + entry_size p f in
     let body = sts_code p m f.named s f.body 0 0 0 here in
     let f2 : c2 ≡ old ++ (params ++ zeros) = e2 ∙ ap (λ c. c ++ zeros) e1 ∙ append_assoc old params zeros in
-    let entry : length (params ++ zeros) ≡ entry_size p f = ap (λ (x : Slots). length (params_code x (each_width f.param_types) f.params 0 ++ zeros_code x f.named)) same ∙ length_entry p f in
+    let entry : length (params ++ zeros) ≡ entry_size p f = ap (λ (x : Slots). length (params_code x (each_width f.param_types) f.params 0 ++ zeros_code x f.named)) same ∙ length_entry p pl f in
     let n : length c2 ≡ here = ap length f2 ∙ omega (arith, length-append old (params ++ zeros), entry) in
     let f3 : c3 ≡ c2 ++ body = e3 ∙ ap (λ place. c2 ++ sts_code p m f.named s f.body 0 0 0 place) n in
     let all : c4 ≡ old ++ ((params ++ zeros) ++ (body ++ leave)) =
@@ -43,34 +44,34 @@ func_emitted p f s old c1 c2 c3 c4 same e1 e2 e3 e4 =
     all ∙ ap (λ (x : Slots). old ++ ((params_code x (each_width f.param_types) f.params 0 ++ zeros_code x f.named) ++ (sts_code p m f.named x f.body 0 0 0 here ++ leave_code x m f.named))) same
 
 -- the slots of a frame that is laid out for a function
-pub slots_are : (p : ProgramData) (f : FuncData) (layout : FrameLayout) (s : Slots) → layout ≡ layout_in (program_of p) (func_in p f)
-    → s ≡ record { outgoing = layout.outgoing; temps = layout.temps; first = f.first_site; sites = sites_in p; globals = globals_in p } → s ≡ slots_of (program_of p) (func_in p f)
-slots_are p f layout s laid is =
-    is ∙ ap (λ (l : FrameLayout). let r : Slots = record { outgoing = l.outgoing; temps = l.temps; first = f.first_site; sites = sites_in p; globals = globals_in p } in r) laid
-    ∙ ap (λ (gs : List ℕ). let r : Slots = record { outgoing = outgoing_of (program_of p) (func_in p f); temps = temps_of (program_of p) (func_in p f); first = f.first_site; sites = sites_in p; globals = gs } in r) (globals_are p)
+pub slots_are : (p : ProgramData) (pl : Placement) (f : FuncData) (layout : FrameLayout) (s : Slots) → layout ≡ layout_in (program_of p) pl (func_in p f)
+    → s ≡ record { outgoing = layout.outgoing; temps = layout.temps; first = f.first_site; count = f.sites; placement = pl; sites = sites_in p; globals = globals_in p } → s ≡ slots_of (program_of p) pl (func_in p f)
+slots_are p pl f layout s laid is =
+    is ∙ ap (λ (l : FrameLayout). let r : Slots = record { outgoing = l.outgoing; temps = l.temps; first = f.first_site; count = f.sites; placement = pl; sites = sites_in p; globals = globals_in p } in r) laid
+    ∙ ap (λ (gs : List ℕ). let r : Slots = record { outgoing = outgoing_of (program_of p) (func_in p f); temps = temps_of (program_of p) pl (func_in p f); first = f.first_site; count = f.sites; placement = pl; sites = sites_in p; globals = gs } in r) (globals_are p)
 
 split : (types : List TypeTree) (gs : List FuncData) (i : ℕ) (g : FuncData) → i < length gs → g ≡ get_or gs i g → map (func_of types) (drop i gs) ≡ func_of types g ∷ map (func_of types) (drop (i + 1) gs)
 split types gs i g l is =
     let one : suc i ≡ i + 1 = omega arith in
     ap (map (func_of types)) (drop-cons gs i g l) ∙ ap (λ (y : FuncData). func_of types y ∷ map (func_of types) (drop (suc i) gs)) (sym is) ∙ ap (λ j. func_of types g ∷ map (func_of types) (drop j gs)) one
 
-module _ (p : Program) (types : List TypeTree) (gs : List FuncData) (i : ℕ) (g : FuncData) (l : i < length gs) (is : g ≡ get_or gs i g) where
+module _ (p : Program) (pl : Placement) (types : List TypeTree) (gs : List FuncData) (i : ℕ) (g : FuncData) (l : i < length gs) (is : g ≡ get_or gs i g) where
   abbrev now : List Func
   now = map (func_of types) (drop i gs)
 
   abbrev rest : List Func
   rest = map (func_of types) (drop (i + 1) gs)
 
-  pub longer : (code more : List Instr) → more ≡ code ++ func_code p (func_of types g) (length code) → length code + func_size p (func_of types g) ≡ length more
-  longer code more e = omega (arith, length-append code (func_code p (func_of types g) (length code)), length_func p (func_of types g) (length code), ap length e)
+  pub longer : (code more : List Instr) → more ≡ code ++ func_code p pl (func_of types g) (length code) → length code + func_size p (func_of types g) ≡ length more
+  longer code more e = omega (arith, length-append code (func_code p pl (func_of types g) (length code)), length_func p pl (func_of types g) (length code), ap length e)
 
-  pub code_next : (whole code more : List Instr) → whole ≡ code ++ funcs_code p now (length code) → more ≡ code ++ func_code p (func_of types g) (length code) → whole ≡ more ++ funcs_code p rest (length more)
+  pub code_next : (whole code more : List Instr) → whole ≡ code ++ funcs_code p pl now (length code) → more ≡ code ++ func_code p pl (func_of types g) (length code) → whole ≡ more ++ funcs_code p pl rest (length more)
   code_next whole code more e1 e2 =
-      let c = func_code p (func_of types g) (length code) in
-      e1 ∙ ap (λ y. code ++ funcs_code p y (length code)) (split types gs i g l is)
-      ∙ sym (append_assoc code c (funcs_code p rest (length code + func_size p (func_of types g))))
-      ∙ ap (λ place. (code ++ c) ++ funcs_code p rest place) (longer code more e2)
-      ∙ ap (λ x. x ++ funcs_code p rest (length more)) (sym e2)
+      let c = func_code p pl (func_of types g) (length code) in
+      e1 ∙ ap (λ y. code ++ funcs_code p pl y (length code)) (split types gs i g l is)
+      ∙ sym (append_assoc code c (funcs_code p pl rest (length code + func_size p (func_of types g))))
+      ∙ ap (λ place. (code ++ c) ++ funcs_code p pl rest place) (longer code more e2)
+      ∙ ap (λ x. x ++ funcs_code p pl rest (length more)) (sym e2)
 
   pub owners_next : (whole code more : List ℕ) (number after : ℕ) → whole ≡ code ++ funcs_owners p now number → more ≡ code ++ replicate (func_size p (func_of types g)) number → after ≡ number + 1 → whole ≡ more ++ funcs_owners p rest after
   owners_next whole code more number after e1 e2 e3 =
@@ -80,37 +81,37 @@ module _ (p : Program) (types : List TypeTree) (gs : List FuncData) (i : ℕ) (g
       ∙ ap (λ place. (code ++ c) ++ funcs_owners p rest place) (sym e3)
       ∙ ap (λ x. x ++ funcs_owners p rest after) (sym e2)
 
-  pub entries_next : (whole code more : List Entry) (pc after : ℕ) → whole ≡ code ++ funcs_entries p now pc → more ≡ code ++ entry_of p (func_of types g) pc ∷ [] → pc + func_size p (func_of types g) ≡ after → whole ≡ more ++ funcs_entries p rest after
+  pub entries_next : (whole code more : List Entry) (pc after : ℕ) → whole ≡ code ++ funcs_entries p pl now pc → more ≡ code ++ entry_of p pl (func_of types g) pc ∷ [] → pc + func_size p (func_of types g) ≡ after → whole ≡ more ++ funcs_entries p pl rest after
   entries_next whole code more pc after e1 e2 e3 =
-      let c : List Entry = entry_of p (func_of types g) pc ∷ [] in
-      e1 ∙ ap (λ y. code ++ funcs_entries p y pc) (split types gs i g l is)
-      ∙ sym (append_assoc code c (funcs_entries p rest (pc + func_size p (func_of types g))))
-      ∙ ap (λ place. (code ++ c) ++ funcs_entries p rest place) e3
-      ∙ ap (λ x. x ++ funcs_entries p rest after) (sym e2)
+      let c : List Entry = entry_of p pl (func_of types g) pc ∷ [] in
+      e1 ∙ ap (λ y. code ++ funcs_entries p pl y pc) (split types gs i g l is)
+      ∙ sym (append_assoc code c (funcs_entries p pl rest (pc + func_size p (func_of types g))))
+      ∙ ap (λ place. (code ++ c) ++ funcs_entries p pl rest place) e3
+      ∙ ap (λ x. x ++ funcs_entries p pl rest after) (sym e2)
 
 -- a function by its number
 pub there : (types : List TypeTree) (gs : List FuncData) (i : ℕ) (g : FuncData) → i < length gs → g ≡ get_or gs i g → slice_get (map (func_of types) gs) i ≡ Some (func_of types g)
 there types gs i g l is = slice_get-map (func_of types) gs i ∙ ap (option_map (func_of types)) (slice_get_read gs (length gs) i g refl l is)
 
-module _ (p : ProgramData) (gs : List FuncData) (same : gs ≡ p.funcs.items) (i : ℕ) (g : FuncData) (l : i < length gs) (is : g ≡ get_or gs i g) where
-  pub fits : IsInForm (program_of p) → FuncFitsIn (program_of p) (func_in p g)
-  fits form = all_fit (program_of p) form i (func_in p g) (subst (λ hs. slice_get (map (func_in p) hs) i ≡ Some (func_in p g)) same (there (trees p.types) gs i g l is))
+module _ (p : ProgramData) (pl : Placement) (gs : List FuncData) (same : gs ≡ p.funcs.items) (i : ℕ) (g : FuncData) (l : i < length gs) (is : g ≡ get_or gs i g) where
+  pub fits : IsInForm (program_of p) → IsPlaced (program_of p) pl → FuncFitsIn (program_of p) pl (func_in p g)
+  fits form placed = all_fit (program_of p) pl form placed i (func_in p g) (subst (λ hs. slice_get (map (func_in p) hs) i ≡ Some (func_in p g)) same (there (trees p.types) gs i g l is))
 
-  pub layout_at : (frames : List FrameLayout) (number : ℕ) (d : FrameLayout) → frames ≡ layouts (program_of p) → number ≡ i → slice_index_or frames number d ≡ layout_in (program_of p) (func_in p g)
+  pub layout_at : (frames : List FrameLayout) (number : ℕ) (d : FrameLayout) → frames ≡ layouts (program_of p) pl → number ≡ i → slice_index_or frames number d ≡ layout_in (program_of p) pl (func_in p g)
   layout_at frames number d laid n =
-      let lay = layout_in (program_of p) in let fs = map (func_in p) gs in
-      let all : frames ≡ map lay fs = laid ∙ ap (λ hs. map (layout_in (program_of p)) (map (func_in p) hs)) (sym same) in
+      let lay = layout_in (program_of p) pl in let fs = map (func_in p) gs in
+      let all : frames ≡ map lay fs = laid ∙ ap (λ hs. map (layout_in (program_of p) pl) (map (func_in p) hs)) (sym same) in
       get_or_from_slice_get frames number (lay (func_in p g)) d
       (ap (slice_get frames) n ∙ ap (λ (x : List FrameLayout). slice_get x i) all ∙ slice_get-map lay fs i ∙ ap (option_map lay) (there (trees p.types) gs i g l is))
 
-pub length_entries : (p : Program) (gs : List Func) (pc : ℕ) → length (funcs_entries p gs pc) ≡ length gs
-length_entries p [] pc = refl
-length_entries p (g ∷ gs) pc = ap suc (length_entries p gs (pc + func_size p g))
+pub length_entries : (p : Program) (pl : Placement) (gs : List Func) (pc : ℕ) → length (funcs_entries p pl gs pc) ≡ length gs
+length_entries p pl [] pc = refl
+length_entries p pl (g ∷ gs) pc = ap suc (length_entries p pl gs (pc + func_size p g))
 
-pub main_there : (p : Program) → IsInForm p → p.main < length (code_of p).funcs
-main_there p form =
+pub main_there : (p : Program) (pl : Placement) → IsInForm p → p.main < length (code_of p pl).funcs
+main_there p pl form =
     let l : p.main < length p.funcs = slice_get_within p.funcs p.main form.main.0 form.main.1 in
-    omega (arith, l, length_entries p p.funcs 0)
+    omega (arith, l, length_entries p pl p.funcs 0)
 
 -- one place less belongs to the function
 pub own_next : (whole owners more : List ℕ) (left number : ℕ) → 0 < left → whole ≡ owners ++ replicate left number → more ≡ owners ++ number ∷ [] → whole ≡ more ++ replicate (left - 1) number
@@ -120,13 +121,13 @@ own_next whole owners more (suc left) number l e1 e2 =
     e1 ∙ sym (append_assoc owners (number ∷ []) (replicate left number)) ∙ ap (λ k. (owners ++ number ∷ []) ++ replicate k number) n ∙ ap (λ x. x ++ replicate (suc left - 1) number) (sym e2)
 
 -- tables by their parts
-tables_are : (p : Program) (instrs : List Instr) (owners : List ℕ) (funcs : List Entry) (strings : List (List ℕ)) → instrs ≡ funcs_code p p.funcs 0 → owners ≡ funcs_owners p p.funcs 0 → funcs ≡ funcs_entries p p.funcs 0 → strings ≡ p.strings
-    → (let r : Tables = record { instrs = instrs; owners = owners; funcs = funcs; strings = strings } in r) ≡ code_of p
-tables_are p instrs owners funcs strings a b c d =
+tables_are : (p : Program) (pl : Placement) (instrs : List Instr) (owners : List ℕ) (funcs : List Entry) (strings : List (List ℕ)) → instrs ≡ funcs_code p pl p.funcs 0 → owners ≡ funcs_owners p p.funcs 0 → funcs ≡ funcs_entries p pl p.funcs 0 → strings ≡ p.strings
+    → (let r : Tables = record { instrs = instrs; owners = owners; funcs = funcs; strings = strings } in r) ≡ code_of p pl
+tables_are p pl instrs owners funcs strings a b c d =
     ap (λ (t : List (List ℕ)). let r : Tables = record { instrs = instrs; owners = owners; funcs = funcs; strings = t } in r) d
     ∙ ap (λ (f : List Entry). let r : Tables = record { instrs = instrs; owners = owners; funcs = f; strings = p.strings } in r) c
-    ∙ ap (λ (o : List ℕ). let r : Tables = record { instrs = instrs; owners = o; funcs = funcs_entries p p.funcs 0; strings = p.strings } in r) b
-    ∙ ap (λ (i : List Instr). let r : Tables = record { instrs = i; owners = funcs_owners p p.funcs 0; funcs = funcs_entries p p.funcs 0; strings = p.strings } in r) a
+    ∙ ap (λ (o : List ℕ). let r : Tables = record { instrs = instrs; owners = o; funcs = funcs_entries p pl p.funcs 0; strings = p.strings } in r) b
+    ∙ ap (λ (i : List Instr). let r : Tables = record { instrs = i; owners = funcs_owners p p.funcs 0; funcs = funcs_entries p pl p.funcs 0; strings = p.strings } in r) a
 
 past : (gs : List FuncData) (i : ℕ) → length gs ≤ i → drop i gs ≡ []
 past [] zero l = refl
@@ -135,16 +136,16 @@ past (g ∷ gs) zero l = absurd (omega arith)
 past (g ∷ gs) (suc i) l = past gs i (omega arith)
 
 -- after the last function the tables are the program's
-pub finished : (p : ProgramData) (gs : List FuncData) (i number : ℕ) (instrs : List Instr) (owners : List ℕ) (entries : List Entry) (strings : List (List ℕ)) → gs ≡ p.funcs.items → length gs ≤ i
-    → funcs_code (program_of p) (map (func_in p) gs) 0 ≡ instrs ++ funcs_code (program_of p) (map (func_in p) (drop i gs)) (length instrs)
+pub finished : (p : ProgramData) (pl : Placement) (gs : List FuncData) (i number : ℕ) (instrs : List Instr) (owners : List ℕ) (entries : List Entry) (strings : List (List ℕ)) → gs ≡ p.funcs.items → length gs ≤ i
+    → funcs_code (program_of p) pl (map (func_in p) gs) 0 ≡ instrs ++ funcs_code (program_of p) pl (map (func_in p) (drop i gs)) (length instrs)
     → funcs_owners (program_of p) (map (func_in p) gs) 0 ≡ owners ++ funcs_owners (program_of p) (map (func_in p) (drop i gs)) number
-    → funcs_entries (program_of p) (map (func_in p) gs) 0 ≡ entries ++ funcs_entries (program_of p) (map (func_in p) (drop i gs)) (length instrs)
-    → strings ≡ map (λ bytes. bytes.items) p.strings.items → (let r : Tables = record { instrs = instrs; owners = owners; funcs = entries; strings = strings } in r) ≡ code_of (program_of p)
-finished p gs i number instrs owners entries strings same l a b c d =
+    → funcs_entries (program_of p) pl (map (func_in p) gs) 0 ≡ entries ++ funcs_entries (program_of p) pl (map (func_in p) (drop i gs)) (length instrs)
+    → strings ≡ map (λ bytes. bytes.items) p.strings.items → (let r : Tables = record { instrs = instrs; owners = owners; funcs = entries; strings = strings } in r) ≡ code_of (program_of p) pl
+finished p pl gs i number instrs owners entries strings same l a b c d =
     let fs = map (func_in p) gs in let whole = program_of p in
     let none : map (func_in p) (drop i gs) ≡ [] = ap (map (func_in p)) (past gs i l) in
     let all : fs ≡ map (func_in p) p.funcs.items = ap (map (func_in p)) same in
-    let x : instrs ≡ funcs_code whole fs 0 = sym (a ∙ ap (λ hs. instrs ++ funcs_code whole hs (length instrs)) none ∙ append-nil instrs) in
+    let x : instrs ≡ funcs_code whole pl fs 0 = sym (a ∙ ap (λ hs. instrs ++ funcs_code whole pl hs (length instrs)) none ∙ append-nil instrs) in
     let y : owners ≡ funcs_owners whole fs 0 = sym (b ∙ ap (λ hs. owners ++ funcs_owners whole hs number) none ∙ append-nil owners) in
-    let z : entries ≡ funcs_entries whole fs 0 = sym (c ∙ ap (λ hs. entries ++ funcs_entries whole hs (length instrs)) none ∙ append-nil entries) in
-    tables_are whole instrs owners entries strings (x ∙ ap (λ hs. funcs_code whole hs 0) all) (y ∙ ap (λ hs. funcs_owners whole hs 0) all) (z ∙ ap (λ hs. funcs_entries whole hs 0) all) d
+    let z : entries ≡ funcs_entries whole pl fs 0 = sym (c ∙ ap (λ hs. entries ++ funcs_entries whole pl hs (length instrs)) none ∙ append-nil entries) in
+    tables_are whole pl instrs owners entries strings (x ∙ ap (λ hs. funcs_code whole pl hs 0) all) (y ∙ ap (λ hs. funcs_owners whole hs 0) all) (z ∙ ap (λ hs. funcs_entries whole pl hs 0) all) d

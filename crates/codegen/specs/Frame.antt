@@ -5,7 +5,7 @@ use Rattle.isa.specs.declared.instr.Instr.TheVariants.{ArgumentWords, Bin, Const
 use Rattle.isa.specs.declared.instr.BinOp.TheVariants.{Add}
 use Rattle.typed_syntax.specs.declared.operators.BinOp.{BinOp}
 use Rattle.typed_syntax.specs.Syntax.{Ex, Exs, Pl, Func, Program as AnyProgram, Left, Piece, all_wide, value_widths, blank, new, to, text, shown, argument_words, result_words}
-use Rattle.typed_syntax.specs.Frames.{far}
+use Rattle.frames.specs.Frames.{far}
 use Rattle.typed.specs.declared.program.Program.{Program}
 use Rattle.program_code.specs.Code.{Slots, temp, site_slot, site_words, moves, operation, shown_code, above_address, place_above, lefts_above, address_code, address_size, fetch_code, land_code, write_code, lefts_code, lefts_end, place_code, place_end, ready_code, ex_code, exs_code}
 use Rattle.codegen.specs.Temps.{SitesFit, sites_words}

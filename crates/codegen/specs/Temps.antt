@@ -2,7 +2,8 @@
 use Rattle.std.specs.Prelude.{◌≡◌, ℕ, zero, suc, ◌+◌, ◌<◌, ◌≤◌, List, [], ◌∷◌, Option, Some, None}
 use Rattle.typed_syntax.specs.Types.{width, part_type}
 use Rattle.typed_syntax.specs.Syntax.{Ex, Left, Piece, St, Sts, Func, Program, blank, new, to, text, shown, over_int, over_length, over_copy, declare, assign, update, bump, discard, block, if_stmt, for_stmt, range, break_stmt, continue_stmt, return_stmt, print, panic, exit, done, next, argument_words, result_words, all_wide, each_width, value_widths}
-use Rattle.typed_syntax.specs.Frames.{far}
+use Rattle.frames.specs.Placement.{Placement}
+use Rattle.frames.specs.Frames.{far}
 use Rattle.program_code.specs.Code.{Slots, site_type, site_words, first_width, other_widths, above_address, place_above, lefts_above, slots_of}
 use Rattle.expression_code.specs.Temps.{SiteFits, PlaceFits, reached, AddressFits, Fits, OperandsFit, ExsFitIn}
 
@@ -110,10 +111,10 @@ module _ (p : Program) (s : Slots) (n : ℕ) where
       StsFitIn h done = Unit {0}
       StsFitIn h (next x xs) = StFitsIn h x × StsFitIn h xs
 
--- a function in its frame
-pub record FuncFitsIn (p : Program) (f : Func) : Type 0 where
-  pub params : ParamsFitIn (slots_of p f) f.count (each_width f.param_types) f.params
-  pub named : SitesFit (slots_of p f) f.count f.named
-  pub names : sites_words (slots_of p f) f.named ≤ result_words f
-  pub body : StsFitIn p (slots_of p f) f.count (result_words f) f.named 0 f.body
+-- a function in its frame, where its variables live so
+pub record FuncFitsIn (p : Program) (l : Placement) (f : Func) : Type 0 where
+  pub params : ParamsFitIn (slots_of p l f) f.count (each_width f.param_types) f.params
+  pub named : SitesFit (slots_of p l f) f.count f.named
+  pub names : sites_words (slots_of p l f) f.named ≤ result_words f
+  pub body : StsFitIn p (slots_of p l f) f.count (result_words f) f.named 0 f.body
   pub small : argument_words f + result_words f ≤ 65535

@@ -28,7 +28,8 @@ pub fn array_goals(
     body: &[Stmt],
 ) -> Result<Goals, NoMemory>
     ensures again { IfOk result (λ g. g.again ≡ begin + 4 + round
-        + sts_size (program_of program.now) (argument_words (func_in program.now func.now)) (func_in program.now func.now).named (sts_of body.now)) }
+        + sts_size (program_of program.now) (argument_words (func_in program.now func.now))
+        (func_in program.now func.now).named (sts_of body.now)) }
     ensures out { IfOk result (λ g. g.out ≡ g.again + 3) }
 {
     let head = plus(begin, ARRAY_HEAD)?;
@@ -51,7 +52,8 @@ pub fn emit_copy(
     requires frame { IsLaid program.now frame.now }
     ensures { OnOk result (code.new.items ≡ code.old.items
         ++ (ex_code (program_of program.now) (slots_in program.now frame.now) (ex_of e.now) h (length code.old.items)
-        ++ moves_of (site_words (slots_in program.now frame.now) site.0) (site_slot (slots_in program.now frame.now) site.0) (temp (slots_in program.now frame.now) h) ∷ [])) }
+        ++ moves_of (site_words (slots_in program.now frame.now) site.0) (site_slot (slots_in program.now frame.now) site.0)
+        (temp (slots_in program.now frame.now) h) ∷ [])) }
 {
     emit_expr(code, program, frame, e, h)?;
     let (a, n) = (frame.of_site(program, site), frame.width_of(program, site));
@@ -73,7 +75,8 @@ pub fn emit_array_start(
     ensures { OnOk result (code.new.items ≡ code.old.items
         ++ Instr.Const (temp (slots_in program.now frame.now) h) 0
         ∷ Instr.Const (temp (slots_in program.now frame.now) (h + 1)) count
-        ∷ Instr.Bin BinOp.Less (temp (slots_in program.now frame.now) (h + 1)) (temp (slots_in program.now frame.now) h) (temp (slots_in program.now frame.now) (h + 1))
+        ∷ Instr.Bin BinOp.Less (temp (slots_in program.now frame.now) (h + 1)) (temp (slots_in program.now frame.now) h)
+        (temp (slots_in program.now frame.now) (h + 1))
         ∷ Instr.JumpZero (temp (slots_in program.now frame.now) (h + 1)) out ∷ []) }
 {
     let (index, below) = (frame.temp(h), frame.temp(h + 1));
@@ -156,13 +159,20 @@ pub fn emit_pair(
 ) -> Result<(), NoMemory>
     requires site { SiteFits (slots_in program.now frame.now) frame.now.sites site.0 }
     requires count { count ≤ site_words (slots_in program.now frame.now) site.0 }
-    requires ready { ReadyFitIn (program_of program.now) (slots_in program.now frame.now) frame.now.sites (h + 1) (left_of key.now ∷ left_of value.now ∷ []) }
-    requires room { lefts_above (left_of key.now ∷ left_of value.now ∷ []) (h + 1) + 1 + width (part_type (site_type (slots_in program.now frame.now) site.0) 0) ≤ frame.now.temps }
+    requires ready { ReadyFitIn (program_of program.now) (slots_in program.now frame.now) frame.now.sites (h + 1)
+        (left_of key.now ∷ left_of value.now ∷ []) }
+    requires room { lefts_above (left_of key.now ∷ left_of value.now ∷ []) (h + 1) + 1 + width
+        (part_type (site_type (slots_in program.now frame.now) site.0) 0) ≤ frame.now.temps }
     requires lefts { LeftsFitIn (slots_in program.now frame.now) frame.now.sites
-        (lefts_above (left_of key.now ∷ left_of value.now ∷ []) (h + 1) + 1 + width (part_type (site_type (slots_in program.now frame.now) site.0) 0))
-        (lefts_above (left_of key.now ∷ left_of value.now ∷ []) (h + 1)) (1 ∷ width (part_type (site_type (slots_in program.now frame.now) site.0) 0) ∷ []) (left_of key.now ∷ left_of value.now ∷ []) }
+        (lefts_above (left_of key.now ∷ left_of value.now ∷ []) (h + 1) + 1 + width
+        (part_type (site_type (slots_in program.now frame.now) site.0) 0))
+        (lefts_above (left_of key.now ∷ left_of value.now ∷ []) (h + 1))
+        (1 ∷ width (part_type (site_type (slots_in program.now frame.now) site.0) 0) ∷ [])
+        (left_of key.now ∷ left_of value.now ∷ []) }
     requires frame { IsLaid program.now frame.now }
-    ensures { OnOk result (code.new.items ≡ code.old.items ++ element_round_code (program_of program.now) (slots_in program.now frame.now) site.0 count (left_of key.now) (left_of value.now) h (length code.old.items)) }
+    ensures { OnOk result (code.new.items ≡ code.old.items
+        ++ element_round_code (program_of program.now) (slots_in program.now frame.now) site.0 count (left_of key.now)
+        (left_of value.now) h (length code.old.items)) }
 {
     let first = h + 1;
     let second = above_left(key, first);

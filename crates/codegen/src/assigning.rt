@@ -3,7 +3,7 @@ ghost use Rattle.std.specs.Prelude.{◌≡◌, ◌+◌, ◌<◌, ◌≤◌, ◌+
 ghost use Rattle.isa.specs.declared.instr.Instr.{Instr};
 ghost use Rattle.typed.specs.View.{ex_of, exs_of_values, left_of, place_of, program_of};
 ghost use Rattle.typed_syntax.specs.Syntax.{all_wide, value_widths};
-ghost use Rattle.typed_syntax.specs.Frames.{far};
+ghost use Rattle.frames.specs.Frames.{far};
 ghost use Rattle.expression_code.specs.Frame.{slots_in, IsLaid};
 ghost use Rattle.codegen.specs.Frame.{assign_code, bump_code, left_code, update_code};
 ghost use Rattle.expression_code.specs.Temps.{ExsFitIn, Fits, OperandsFit, PlaceFits, reached};
@@ -50,9 +50,12 @@ pub fn ready_left(
     left: &Left,
     h: u16,
 ) -> Result<(), NoMemory>
-    requires fits { ReadyFitIn (program_of program.now) (slots_in program.now frame.now) frame.now.sites h (left_of left.now ∷ []) }
+    requires fits { ReadyFitIn (program_of program.now) (slots_in program.now frame.now) frame.now.sites h
+        (left_of left.now ∷ []) }
     requires frame { IsLaid program.now frame.now }
-    ensures { OnOk result (code.new.items ≡ code.old.items ++ ready_code (program_of program.now) (slots_in program.now frame.now) (left_of left.now ∷ []) h (length code.old.items)) }
+    ensures { OnOk result (code.new.items ≡ code.old.items
+        ++ ready_code (program_of program.now) (slots_in program.now frame.now) (left_of left.now ∷ []) h
+        (length code.old.items)) }
 {
     match left {
         Left::To(place) => emit_place(code, program, frame, place, h),
@@ -71,7 +74,8 @@ fn ready_lefts(
     requires fits { ReadyFitIn (program_of program.now) (slots_in program.now frame.now) frame.now.sites h (map left_of ls.now) }
     requires room { above_all (map left_of ls.now) h ≤ 65535 }
     requires frame { IsLaid program.now frame.now }
-    ensures { OnOk result (code.new.items ≡ code.old.items ++ ready_code (program_of program.now) (slots_in program.now frame.now) (map left_of ls.now) h (length code.old.items)) }
+    ensures { OnOk result (code.new.items ≡ code.old.items
+        ++ ready_code (program_of program.now) (slots_in program.now frame.now) (map left_of ls.now) h (length code.old.items)) }
 {
     let mut next = h;
     for left in ls {
@@ -96,7 +100,8 @@ pub fn emit_left(
     requires operands { above_all (left_of left.now ∷ []) first ≤ frame.now.temps }
     requires fits { LeftFits (slots_in program.now frame.now) frame.now.sites at (left_of left.now) }
     requires frame { IsLaid program.now frame.now }
-    ensures { OnOk result (code.new.items ≡ code.old.items ++ left_code (slots_in program.now frame.now) (left_of left.now) first at h) }
+    ensures { OnOk result (code.new.items ≡ code.old.items
+        ++ left_code (slots_in program.now frame.now) (left_of left.now) first at h) }
 {
     match left {
         Left::Blank => {}
@@ -121,10 +126,12 @@ fn emit_lefts(
     h: u16,
 ) -> Result<(), NoMemory>
     requires operands { above_all (map left_of ls.now) first ≤ frame.now.temps }
-    requires fits { LeftsFitIn (slots_in program.now frame.now) frame.now.sites at h (value_widths (program_of program.now) (exs_of_values values.now)) (map left_of ls.now) }
+    requires fits { LeftsFitIn (slots_in program.now frame.now) frame.now.sites at h
+        (value_widths (program_of program.now) (exs_of_values values.now)) (map left_of ls.now) }
     requires frame { IsLaid program.now frame.now }
     ensures { OnOk result (code.new.items ≡ code.old.items
-        ++ lefts_code (slots_in program.now frame.now) (value_widths (program_of program.now) (exs_of_values values.now)) (map left_of ls.now) first at h) }
+        ++ lefts_code (slots_in program.now frame.now) (value_widths (program_of program.now) (exs_of_values values.now))
+        (map left_of ls.now) first at h) }
 {
     let (mut operands, mut next) = (first, h);
     for (i, left) in ls.iter().enumerate() {
@@ -146,14 +153,19 @@ pub fn emit_assign(
     values: &Values,
     h: u16,
 ) -> Result<(), NoMemory>
-    requires room { above_all (map left_of ls.now) h + all_wide (program_of program.now) (exs_of_values values.now) ≤ frame.now.temps }
-    requires values { ExsFitIn (program_of program.now) (slots_in program.now frame.now) frame.now.sites (above_all (map left_of ls.now) h) (exs_of_values values.now) }
+    requires room { above_all (map left_of ls.now) h + all_wide (program_of program.now)
+        (exs_of_values values.now) ≤ frame.now.temps }
+    requires values { ExsFitIn (program_of program.now) (slots_in program.now frame.now) frame.now.sites
+        (above_all (map left_of ls.now) h) (exs_of_values values.now) }
     requires ready { ReadyFitIn (program_of program.now) (slots_in program.now frame.now) frame.now.sites h (map left_of ls.now) }
-    requires lefts { LeftsFitIn (slots_in program.now frame.now) frame.now.sites (above_all (map left_of ls.now) h + all_wide (program_of program.now) (exs_of_values values.now))
-        (above_all (map left_of ls.now) h) (value_widths (program_of program.now) (exs_of_values values.now)) (map left_of ls.now) }
+    requires lefts { LeftsFitIn (slots_in program.now frame.now) frame.now.sites
+        (above_all (map left_of ls.now) h + all_wide (program_of program.now) (exs_of_values values.now))
+        (above_all (map left_of ls.now) h) (value_widths (program_of program.now) (exs_of_values values.now))
+        (map left_of ls.now) }
     requires frame { IsLaid program.now frame.now }
     ensures { OnOk result (code.new.items ≡ code.old.items
-        ++ assign_code (program_of program.now) (slots_in program.now frame.now) (map left_of ls.now) (exs_of_values values.now) h (length code.old.items)) }
+        ++ assign_code (program_of program.now) (slots_in program.now frame.now) (map left_of ls.now)
+        (exs_of_values values.now) h (length code.old.items)) }
 {
     ready_lefts(code, program, frame, ls, h)?;
     let first = above_lefts(ls, h);
@@ -175,12 +187,16 @@ pub fn emit_update(
     h: u16,
 ) -> Result<(), NoMemory>
     requires room { above_address_of (far (place_of place.now)) (place_above (place_of place.now) h) + 1 < frame.now.temps }
-    requires place { PlaceFits (slots_in program.now frame.now) frame.now.sites (place_of place.now) × (reached (slots_in program.now frame.now) (place_of place.now) ≤ 1) }
-    requires operands { OperandsFit (program_of program.now) (slots_in program.now frame.now) frame.now.sites h (place_of place.now) }
-    requires operand { Fits (program_of program.now) (slots_in program.now frame.now) frame.now.sites (above_address_of (far (place_of place.now)) (place_above (place_of place.now) h) + 1) (ex_of e.now) }
+    requires place { PlaceFits (slots_in program.now frame.now) frame.now.sites (place_of place.now)
+        × (reached (slots_in program.now frame.now) (place_of place.now) ≤ 1) }
+    requires operands { OperandsFit (program_of program.now) (slots_in program.now frame.now) frame.now.sites h
+        (place_of place.now) }
+    requires operand { Fits (program_of program.now) (slots_in program.now frame.now) frame.now.sites
+        (above_address_of (far (place_of place.now)) (place_above (place_of place.now) h) + 1) (ex_of e.now) }
     requires frame { IsLaid program.now frame.now }
     ensures { OnOk result (code.new.items ≡ code.old.items
-        ++ update_code (program_of program.now) (slots_in program.now frame.now) (place_of place.now) op (ex_of e.now) h (length code.old.items)) }
+        ++ update_code (program_of program.now) (slots_in program.now frame.now) (place_of place.now) op (ex_of e.now) h
+        (length code.old.items)) }
 {
     emit_place(code, program, frame, place, h)?;
     let at = above_operands(place, h);
@@ -204,11 +220,14 @@ pub fn emit_bump(
     h: u16,
 ) -> Result<(), NoMemory>
     requires room { above_address_of (far (place_of place.now)) (place_above (place_of place.now) h) + 1 < frame.now.temps }
-    requires place { PlaceFits (slots_in program.now frame.now) frame.now.sites (place_of place.now) × (reached (slots_in program.now frame.now) (place_of place.now) ≤ 1) }
-    requires operands { OperandsFit (program_of program.now) (slots_in program.now frame.now) frame.now.sites h (place_of place.now) }
+    requires place { PlaceFits (slots_in program.now frame.now) frame.now.sites (place_of place.now)
+        × (reached (slots_in program.now frame.now) (place_of place.now) ≤ 1) }
+    requires operands { OperandsFit (program_of program.now) (slots_in program.now frame.now) frame.now.sites h
+        (place_of place.now) }
     requires frame { IsLaid program.now frame.now }
     ensures { OnOk result (code.new.items ≡ code.old.items
-        ++ bump_code (program_of program.now) (slots_in program.now frame.now) (place_of place.now) op h (length code.old.items)) }
+        ++ bump_code (program_of program.now) (slots_in program.now frame.now) (place_of place.now) op h
+        (length code.old.items)) }
 {
     emit_place(code, program, frame, place, h)?;
     let at = above_operands(place, h);

@@ -33,11 +33,14 @@ fn emit_stmt(
     h: u16,
     goals: Goals,
 ) -> Result<(), NoMemory>
-    requires fits { StFitsIn (program_of program.now) (slots_in program.now frame.now) frame.now.sites (result_words (func_in program.now func.now)) (func_in program.now func.now).named h (st_of s.now) }
+    requires fits { StFitsIn (program_of program.now) (slots_in program.now frame.now) frame.now.sites
+        (result_words (func_in program.now func.now)) (func_in program.now func.now).named h (st_of s.now) }
     requires returns { Returns program.now frame.now (func_in program.now func.now) }
     requires frame { IsLaid program.now frame.now }
     ensures { OnOk result (code.new.items ≡ code.old.items
-        ++ st_code (program_of program.now) (argument_words (func_in program.now func.now)) (func_in program.now func.now).named (slots_in program.now frame.now) (st_of s.now) h goals.out goals.again (length code.old.items)) }
+        ++ st_code (program_of program.now) (argument_words (func_in program.now func.now))
+        (func_in program.now func.now).named (slots_in program.now frame.now) (st_of s.now) h goals.out goals.again
+        (length code.old.items)) }
 {
     let start = here(code)?;
     match s {
@@ -99,12 +102,14 @@ fn emit_count(
     key: &Left,
     h: u16,
 ) -> Result<(), NoMemory>
-    requires fits { StFitsIn (program_of program.now) (slots_in program.now frame.now) frame.now.sites (result_words (func_in program.now func.now)) (func_in program.now func.now).named h
+    requires fits { StFitsIn (program_of program.now) (slots_in program.now frame.now) frame.now.sites
+        (result_words (func_in program.now func.now)) (func_in program.now func.now).named h
         (range (over_int (ex_of e.now)) (left_of key.now) blank (sts_of body.now)) }
     requires returns { Returns program.now frame.now (func_in program.now func.now) }
     requires frame { IsLaid program.now frame.now }
     ensures { OnOk result (code.new.items ≡ code.old.items
-        ++ st_code (program_of program.now) (argument_words (func_in program.now func.now)) (func_in program.now func.now).named (slots_in program.now frame.now)
+        ++ st_code (program_of program.now) (argument_words (func_in program.now func.now))
+        (func_in program.now func.now).named (slots_in program.now frame.now)
         (range (over_int (ex_of e.now)) (left_of key.now) blank (sts_of body.now)) h 0 0 (length code.old.items)) }
 {
     let start = here(code)?;
@@ -130,12 +135,14 @@ fn emit_indices(
     key: &Left,
     h: u16,
 ) -> Result<(), NoMemory>
-    requires fits { StFitsIn (program_of program.now) (slots_in program.now frame.now) frame.now.sites (result_words (func_in program.now func.now)) (func_in program.now func.now).named h
+    requires fits { StFitsIn (program_of program.now) (slots_in program.now frame.now) frame.now.sites
+        (result_words (func_in program.now func.now)) (func_in program.now func.now).named h
         (range (over_length count) (left_of key.now) blank (sts_of body.now)) }
     requires returns { Returns program.now frame.now (func_in program.now func.now) }
     requires frame { IsLaid program.now frame.now }
     ensures { OnOk result (code.new.items ≡ code.old.items
-        ++ st_code (program_of program.now) (argument_words (func_in program.now func.now)) (func_in program.now func.now).named (slots_in program.now frame.now)
+        ++ st_code (program_of program.now) (argument_words (func_in program.now func.now))
+        (func_in program.now func.now).named (slots_in program.now frame.now)
         (range (over_length count) (left_of key.now) blank (sts_of body.now)) h 0 0 (length code.old.items)) }
 {
     let start = here(code)?;
@@ -158,11 +165,14 @@ pub fn emit_stmts(
     h: u16,
     goals: Goals,
 ) -> Result<(), NoMemory>
-    requires fits { StsFitIn (program_of program.now) (slots_in program.now frame.now) frame.now.sites (result_words (func_in program.now func.now)) (func_in program.now func.now).named h (sts_of ss.now) }
+    requires fits { StsFitIn (program_of program.now) (slots_in program.now frame.now) frame.now.sites
+        (result_words (func_in program.now func.now)) (func_in program.now func.now).named h (sts_of ss.now) }
     requires returns { Returns program.now frame.now (func_in program.now func.now) }
     requires frame { IsLaid program.now frame.now }
     ensures { OnOk result (code.new.items ≡ code.old.items
-        ++ sts_code (program_of program.now) (argument_words (func_in program.now func.now)) (func_in program.now func.now).named (slots_in program.now frame.now) (sts_of ss.now) h goals.out goals.again (length code.old.items)) }
+        ++ sts_code (program_of program.now) (argument_words (func_in program.now func.now))
+        (func_in program.now func.now).named (slots_in program.now frame.now) (sts_of ss.now) h goals.out goals.again
+        (length code.old.items)) }
 {
     for s in ss {
         emit_stmt(code, program, frame, func, s, h, goals)?;

@@ -31,7 +31,9 @@ pub fn emit_test(
 ) -> Result<(), NoMemory>
     requires fits { TestFitsIn (program_of program.now) (slots_in program.now frame.now) frame.now.sites h (test_of test.now) }
     requires frame { IsLaid program.now frame.now }
-    ensures { OnOk result (code.new.items ≡ code.old.items ++ test_code (program_of program.now) (slots_in program.now frame.now) (test_of test.now) h (length code.old.items) goal) }
+    ensures { OnOk result (code.new.items ≡ code.old.items
+        ++ test_code (program_of program.now) (slots_in program.now frame.now) (test_of test.now) h
+        (length code.old.items) goal) }
 {
     match test {
         None => {}
@@ -55,7 +57,8 @@ pub fn emit_renewal(
     requires fits { SitesFit (slots_in program.now frame.now) frame.now.sites (site_numbers sites.now) }
     requires temps { RenewFits (slots_in program.now frame.now) h (site_numbers sites.now) }
     requires frame { IsLaid program.now frame.now }
-    ensures { OnOk result (code.new.items ≡ code.old.items ++ renew_code (slots_in program.now frame.now) (site_numbers sites.now) h) }
+    ensures { OnOk result (code.new.items ≡ code.old.items
+        ++ renew_code (slots_in program.now frame.now) (site_numbers sites.now) h) }
 {
     for site in sites {
         let (old, moved) = (frame.of_site(program, *site), frame.temp(h));
@@ -77,9 +80,11 @@ pub fn loop_goals(
     body: &[Stmt],
 ) -> Result<Goals, NoMemory>
     ensures again { IfOk result (λ g. g.again ≡ start + test_size (program_of program.now) (test_of test.now)
-        + sts_size (program_of program.now) (argument_words (func_in program.now func.now)) (func_in program.now func.now).named (sts_of body.now)) }
+        + sts_size (program_of program.now) (argument_words (func_in program.now func.now))
+        (func_in program.now func.now).named (sts_of body.now)) }
     ensures out { IfOk result (λ g. g.out ≡ g.again + renew_size (site_numbers sites.now)
-        + sts_size (program_of program.now) (argument_words (func_in program.now func.now)) (func_in program.now func.now).named (sts_of post.now) + 1) }
+        + sts_size (program_of program.now) (argument_words (func_in program.now func.now))
+        (func_in program.now func.now).named (sts_of post.now) + 1) }
 {
     let inside = plus(start, test_len(program, test)?)?;
     let again = plus(inside, stmts_len(program, func, body)?)?;
@@ -104,7 +109,8 @@ pub fn round_goals(
     body: &[Stmt],
 ) -> Result<Goals, NoMemory>
     ensures again { IfOk result (λ g. g.again ≡ inside
-        + sts_size (program_of program.now) (argument_words (func_in program.now func.now)) (func_in program.now func.now).named (sts_of body.now)) }
+        + sts_size (program_of program.now) (argument_words (func_in program.now func.now))
+        (func_in program.now func.now).named (sts_of body.now)) }
     ensures out { IfOk result (λ g. g.out ≡ g.again + 3) }
 {
     let again = plus(inside, stmts_len(program, func, body)?)?;
@@ -121,7 +127,8 @@ pub fn count_goals(
     body: &[Stmt],
 ) -> Result<Goals, NoMemory>
     ensures again { IfOk result (λ g. g.again ≡ test + 2 + index_round_size (program_of program.now) (left_of key.now)
-        + sts_size (program_of program.now) (argument_words (func_in program.now func.now)) (func_in program.now func.now).named (sts_of body.now)) }
+        + sts_size (program_of program.now) (argument_words (func_in program.now func.now))
+        (func_in program.now func.now).named (sts_of body.now)) }
     ensures out { IfOk result (λ g. g.out ≡ g.again + 3) }
 {
     let written = plus(TEST, key_len(program, key)?)?;
@@ -141,7 +148,8 @@ pub fn emit_count_start(
     requires temps { h + 1 < frame.now.temps }
     requires frame { IsLaid program.now frame.now }
     ensures { OnOk result (code.new.items ≡ code.old.items
-        ++ (ex_code (program_of program.now) (slots_in program.now frame.now) (ex_of e.now) h (length code.old.items) ++ Instr.Const (temp (slots_in program.now frame.now) (h + 1)) 0 ∷ [])) }
+        ++ (ex_code (program_of program.now) (slots_in program.now frame.now) (ex_of e.now) h (length code.old.items)
+        ++ Instr.Const (temp (slots_in program.now frame.now) (h + 1)) 0 ∷ [])) }
 {
     emit_expr(code, program, frame, e, h)?;
     let a = frame.temp(h + 1);
@@ -160,10 +168,14 @@ pub fn emit_key(
 ) -> Result<(), NoMemory>
     requires index { index ≤ frame.now.temps }
     requires first { first ≤ frame.now.temps }
-    requires ready { ReadyFitIn (program_of program.now) (slots_in program.now frame.now) frame.now.sites first (left_of key.now ∷ []) }
-    requires key { LeftFits (slots_in program.now frame.now) frame.now.sites (lefts_above (left_of key.now ∷ []) first) (left_of key.now) }
+    requires ready { ReadyFitIn (program_of program.now) (slots_in program.now frame.now) frame.now.sites first
+        (left_of key.now ∷ []) }
+    requires key { LeftFits (slots_in program.now frame.now) frame.now.sites (lefts_above (left_of key.now ∷ []) first)
+        (left_of key.now) }
     requires frame { IsLaid program.now frame.now }
-    ensures { OnOk result (code.new.items ≡ code.old.items ++ key_code (program_of program.now) (slots_in program.now frame.now) (left_of key.now) first index (length code.old.items)) }
+    ensures { OnOk result (code.new.items ≡ code.old.items
+        ++ key_code (program_of program.now) (slots_in program.now frame.now) (left_of key.now) first index
+        (length code.old.items)) }
 {
     ready_left(code, program, frame, key, first)?;
     emit_left(
@@ -204,7 +216,8 @@ pub fn emit_count_test(
     requires temps { h + 2 < frame.now.temps }
     requires frame { IsLaid program.now frame.now }
     ensures { OnOk result (code.new.items ≡ code.old.items
-        ++ Instr.Bin BinOp.Less (temp (slots_in program.now frame.now) (h + 2)) (temp (slots_in program.now frame.now) (h + 1)) (temp (slots_in program.now frame.now) h)
+        ++ Instr.Bin BinOp.Less (temp (slots_in program.now frame.now) (h + 2)) (temp (slots_in program.now frame.now) (h + 1))
+        (temp (slots_in program.now frame.now) h)
         ∷ Instr.JumpZero (temp (slots_in program.now frame.now) (h + 2)) out ∷ []) }
 {
     let (number, index, below) = (frame.temp(h), frame.temp(h + 1), frame.temp(h + 2));

@@ -2,6 +2,8 @@
 ghost use Rattle.std.specs.Prelude.{◌≡◌, ◌+◌, ◌<◌, ◌^◌, ◌++◌, ◌∷◌, [], IfOk, OnOk, length, map, replicate};
 ghost use Rattle.typed.specs.View.{program_of};
 ghost use Rattle.typed_syntax.specs.Form.{IsInForm};
+ghost use Rattle.frames.specs.Placement.{IsPlaced};
+ghost use Rattle.placement.specs.Told.{placement_of};
 ghost use Rattle.frame_layout.specs.Layout.{layout_in, layouts as layouts_of};
 ghost use Rattle.expression_code.specs.Frame.{func_in, global_addresses as addresses_of, slots_in, IsLaid};
 ghost use Rattle.codegen.specs.Temps.{FuncFitsIn};
@@ -10,9 +12,10 @@ ghost use Rattle.program_code.specs.Code.{code_of, entry_of, func_code, func_siz
 use crate::emitting::emit_stmts;
 use crate::returning::{emit_leave, emit_params, emit_zeros};
 use base::NoMemory;
-use expression_code::{Frame, Goals, global_addresses, here};
+use expression_code::{Frame, Goals, Homes, global_addresses, here};
 use frame_layout::{FrameLayout, Layouts, all_words};
 use isa::{Code, Instr};
+use placement::Placement;
 use std::alloc::Global;
 use typed::{Func, Program};
 
@@ -31,11 +34,13 @@ fn emit_func(
     frame: &Frame,
     func: &Func,
 ) -> Result<(), NoMemory>
-    requires slots { slots_in program.now frame.now ≡ slots_of (program_of program.now) (func_in program.now func.now) }
+    requires slots { slots_in program.now frame.now
+        ≡ slots_of (program_of program.now) (placement_of frame.now.homes.placement) (func_in program.now func.now) }
     requires sites { frame.now.sites ≡ func.now.sites }
-    requires fits { FuncFitsIn (program_of program.now) (func_in program.now func.now) }
+    requires fits { FuncFitsIn (program_of program.now) (placement_of frame.now.homes.placement) (func_in program.now func.now) }
     requires frame { IsLaid program.now frame.now }
-    ensures { OnOk result (code.new.items ≡ code.old.items ++ func_code (program_of program.now) (func_in program.now func.now) (length code.old.items)) }
+    ensures { OnOk result (code.new.items ≡ code.old.items ++ func_code (program_of program.now)
+        (placement_of frame.now.homes.placement) (func_in program.now func.now) (length code.old.items)) }
 {
     emit_params(code, program, frame, &func.params, &func.param_types)?;
     emit_zeros(code, program, frame, &func.named)?;
@@ -86,7 +91,7 @@ fn copied(alloc: Global, strings: &[Vec<u8>]) -> Result<Vec<Vec<u8>>, NoMemory>
     Ok(all)
 }
 
-// A function comes after the others, with this number. The addresses of the package variables go through its frame.
+// A function comes after the others, with this number. What is known of all variables goes through its frame.
 fn add(
     alloc: Global,
     parts: &mut Parts,
@@ -94,18 +99,21 @@ fn add(
     func: &Func,
     layout: FrameLayout,
     number: u16,
-    globals: Vec<u64>,
-) -> Result<Vec<u64>, NoMemory>
-    requires globals { globals.items ≡ addresses_of program.now }
-    requires fits { FuncFitsIn (program_of program.now) (func_in program.now func.now) }
-    requires layout { layout ≡ layout_in (program_of program.now) (func_in program.now func.now) }
-    ensures instrs { OnOk result (parts.new.instrs.items ≡ parts.old.instrs.items ++ func_code (program_of program.now) (func_in program.now func.now) (length parts.old.instrs.items)) }
-    ensures owners { OnOk result (parts.new.owners.items ≡ parts.old.owners.items ++ replicate (func_size (program_of program.now) (func_in program.now func.now)) number) }
-    ensures funcs { OnOk result (parts.new.funcs.items ≡ parts.old.funcs.items ++ entry_of (program_of program.now) (func_in program.now func.now) (length parts.old.instrs.items) ∷ []) }
-    ensures globals { IfOk result (λ same. same.items ≡ addresses_of program.now) }
+    homes: Homes,
+) -> Result<Homes, NoMemory>
+    requires globals { homes.globals.items ≡ addresses_of program.now }
+    requires fits { FuncFitsIn (program_of program.now) (placement_of homes.placement) (func_in program.now func.now) }
+    requires layout { layout ≡ layout_in (program_of program.now) (placement_of homes.placement) (func_in program.now func.now) }
+    ensures instrs { OnOk result (parts.new.instrs.items ≡ parts.old.instrs.items ++ func_code (program_of program.now)
+        (placement_of homes.placement) (func_in program.now func.now) (length parts.old.instrs.items)) }
+    ensures owners { OnOk result (parts.new.owners.items ≡ parts.old.owners.items
+        ++ replicate (func_size (program_of program.now) (func_in program.now func.now)) number) }
+    ensures funcs { OnOk result (parts.new.funcs.items ≡ parts.old.funcs.items ++ entry_of (program_of program.now)
+        (placement_of homes.placement) (func_in program.now func.now) (length parts.old.instrs.items) ∷ []) }
+    ensures homes { IfOk result (λ same. same ≡ homes) }
 {
     let start = here(&parts.instrs)?;
-    let frame = Frame::new(alloc, program, func, layout, globals)?;
+    let frame = Frame::new(alloc, program, func, layout, homes)?;
     emit_func(&mut parts.instrs, program, &frame, func)?;
     let places = parts.instrs.len() - start as usize;
     own(&mut parts.owners, number, places)?;
@@ -118,15 +126,21 @@ fn add(
         start,
     };
     put_entry(&mut parts.funcs, entry)?;
-    Ok(frame.into_globals())
+    Ok(frame.into_homes())
 }
 
-/// The code of a program whose frames are laid out so. Memory counts as refused, too, where the code would have more than
-/// 2^32 - 1 instructions.
-pub fn emit(alloc: Global, program: &Program, layouts: &Layouts) -> Result<Code, NoMemory>
+/// The code of a program whose variables live so, and whose frames are laid out so. Memory counts as refused, too, where the code
+/// would have more than 2^32 - 1 instructions.
+pub fn emit(
+    alloc: Global,
+    program: &Program,
+    placement: Placement,
+    layouts: &Layouts,
+) -> Result<Code, NoMemory>
     requires form { IsInForm (program_of program.now) }
-    requires layouts { layouts.now ≡ layouts_of (program_of program.now) }
-    ensures is { IfOk result (λ code. code ≡ code_of (program_of program.now)) }
+    requires placed { IsPlaced (program_of program.now) (placement_of placement) }
+    requires layouts { layouts.now ≡ layouts_of (program_of program.now) (placement_of placement) }
+    ensures is { IfOk result (λ code. code ≡ code_of (program_of program.now) (placement_of placement)) }
     ensures main { IfOk result (λ code. program.now.main.0 < length code.funcs) }
     ensures small { IfOk result (λ code. length code.instrs < 2 ^ 40) }
 {
@@ -137,11 +151,12 @@ pub fn emit(alloc: Global, program: &Program, layouts: &Layouts) -> Result<Code,
         owners: Vec::new(alloc),
         funcs: Vec::new(alloc),
     };
-    let mut globals = global_addresses(alloc, program)?;
+    let globals = global_addresses(alloc, program)?;
+    let mut homes = Homes { placement, globals };
     let mut number: u16 = 0;
     for func in funcs {
         let layout = frames[number as usize];
-        globals = add(alloc, &mut parts, program, func, layout, number, globals)?;
+        homes = add(alloc, &mut parts, program, func, layout, number, homes)?;
         number += 1;
     }
     here(&parts.instrs)?;

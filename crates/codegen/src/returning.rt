@@ -26,7 +26,8 @@ fn emit_param(
 ) -> Result<(), NoMemory>
     requires fits { ParamFits (slots_in program.now frame.now) frame.now.sites (site_in param) }
     requires frame { IsLaid program.now frame.now }
-    ensures { OnOk result (code.new.items ≡ code.old.items ++ param_code (slots_in program.now frame.now) (site_in param) n word) }
+    ensures { OnOk result (code.new.items ≡ code.old.items
+        ++ param_code (slots_in program.now frame.now) (site_in param) n word) }
 {
     if let Some(site) = param {
         let a = frame.of_site(program, site);
@@ -43,10 +44,13 @@ pub fn emit_params(
     params: &[Option<SiteId>],
     types: &[TypeId],
 ) -> Result<(), NoMemory>
-    requires fits { ParamsFitIn (slots_in program.now frame.now) frame.now.sites (each_width (map (λ t. type_in (trees program.now.types) t.0) types.now)) (map site_in params.now) }
+    requires fits { ParamsFitIn (slots_in program.now frame.now) frame.now.sites
+        (each_width (map (λ t. type_in (trees program.now.types) t.0) types.now)) (map site_in params.now) }
     requires small { all_width (map (λ t. type_in (trees program.now.types) t.0) types.now) ≤ 65535 }
     requires frame { IsLaid program.now frame.now }
-    ensures { OnOk result (code.new.items ≡ code.old.items ++ params_code (slots_in program.now frame.now) (each_width (map (λ t. type_in (trees program.now.types) t.0) types.now)) (map site_in params.now) 0) }
+    ensures { OnOk result (code.new.items ≡ code.old.items
+        ++ params_code (slots_in program.now frame.now)
+        (each_width (map (λ t. type_in (trees program.now.types) t.0) types.now)) (map site_in params.now) 0) }
 {
     let mut word: u16 = 0;
     for (i, param) in params.iter().enumerate() {
@@ -66,7 +70,8 @@ pub fn emit_zeros(
 ) -> Result<(), NoMemory>
     requires fits { SitesFit (slots_in program.now frame.now) frame.now.sites (site_numbers sites.now) }
     requires frame { IsLaid program.now frame.now }
-    ensures { OnOk result (code.new.items ≡ code.old.items ++ zeros_code (slots_in program.now frame.now) (site_numbers sites.now)) }
+    ensures { OnOk result (code.new.items ≡ code.old.items
+        ++ zeros_code (slots_in program.now frame.now) (site_numbers sites.now)) }
 {
     for site in sites {
         let (a, n) = (
@@ -89,7 +94,8 @@ fn emit_named_writes(
     requires fits { SitesFit (slots_in program.now frame.now) frame.now.sites (site_numbers sites.now) }
     requires temps { h + sites_words (slots_in program.now frame.now) (site_numbers sites.now) ≤ frame.now.temps }
     requires frame { IsLaid program.now frame.now }
-    ensures { OnOk result (code.new.items ≡ code.old.items ++ named_write_code (slots_in program.now frame.now) (site_numbers sites.now) h) }
+    ensures { OnOk result (code.new.items ≡ code.old.items
+        ++ named_write_code (slots_in program.now frame.now) (site_numbers sites.now) h) }
 {
     let mut next = h;
     for site in sites {
@@ -124,7 +130,8 @@ fn emit_named_reads(
     requires fits { SitesFit (slots_in program.now frame.now) frame.now.sites (site_numbers sites.now) }
     requires small { first + sites_words (slots_in program.now frame.now) (site_numbers sites.now) ≤ 65535 }
     requires frame { IsLaid program.now frame.now }
-    ensures { OnOk result (code.new.items ≡ code.old.items ++ named_read_code (slots_in program.now frame.now) (site_numbers sites.now) first) }
+    ensures { OnOk result (code.new.items ≡ code.old.items
+        ++ named_read_code (slots_in program.now frame.now) (site_numbers sites.now) first) }
 {
     let temp = frame.temp(0);
     let mut word = first;
@@ -150,7 +157,9 @@ pub fn emit_leave(
 ) -> Result<(), NoMemory>
     requires returns { Returns program.now frame.now (func_in program.now func.now) }
     requires frame { IsLaid program.now frame.now }
-    ensures { OnOk result (code.new.items ≡ code.old.items ++ leave_code (slots_in program.now frame.now) (argument_words (func_in program.now func.now)) (func_in program.now func.now).named) }
+    ensures { OnOk result (code.new.items ≡ code.old.items
+        ++ leave_code (slots_in program.now frame.now) (argument_words (func_in program.now func.now))
+        (func_in program.now func.now).named) }
 {
     let arguments = all_words(program, &func.param_types)? as u16;
     emit_named_reads(code, program, frame, &func.named, arguments)?;
@@ -167,10 +176,13 @@ fn emit_given(
     words: u64,
     h: u16,
 ) -> Result<(), NoMemory>
-    requires fits { ValuesFit (slots_in program.now frame.now) (result_words (func_in program.now func.now)) h words (func_in program.now func.now).named }
+    requires fits { ValuesFit (slots_in program.now frame.now) (result_words (func_in program.now func.now)) h words
+        (func_in program.now func.now).named }
     requires returns { Returns program.now frame.now (func_in program.now func.now) }
     requires frame { IsLaid program.now frame.now }
-    ensures { OnOk result (code.new.items ≡ code.old.items ++ values_code (slots_in program.now frame.now) (argument_words (func_in program.now func.now)) words (func_in program.now func.now).named h) }
+    ensures { OnOk result (code.new.items ≡ code.old.items
+        ++ values_code (slots_in program.now frame.now) (argument_words (func_in program.now func.now)) words
+        (func_in program.now func.now).named h) }
 {
     if func.named.is_empty() {
         let arguments = all_words(program, &func.param_types)? as u16;
@@ -190,13 +202,19 @@ pub fn emit_return(
     values: &Values,
     h: u16,
 ) -> Result<(), NoMemory>
-    requires fits { ExsFitIn (program_of program.now) (slots_in program.now frame.now) frame.now.sites h (exs_of_values values.now)
-        × ValuesFit (slots_in program.now frame.now) (result_words (func_in program.now func.now)) h (all_wide (program_of program.now) (exs_of_values values.now)) (func_in program.now func.now).named }
+    requires fits { ExsFitIn (program_of program.now) (slots_in program.now frame.now) frame.now.sites h
+        (exs_of_values values.now)
+        × ValuesFit (slots_in program.now frame.now) (result_words (func_in program.now func.now)) h
+        (all_wide (program_of program.now) (exs_of_values values.now)) (func_in program.now func.now).named }
     requires returns { Returns program.now frame.now (func_in program.now func.now) }
     requires frame { IsLaid program.now frame.now }
-    ensures { OnOk result (code.new.items ≡ code.old.items ++ (exs_code (program_of program.now) (slots_in program.now frame.now) (exs_of_values values.now) h (length code.old.items)
-        ++ (values_code (slots_in program.now frame.now) (argument_words (func_in program.now func.now)) (all_wide (program_of program.now) (exs_of_values values.now)) (func_in program.now func.now).named h
-        ++ leave_code (slots_in program.now frame.now) (argument_words (func_in program.now func.now)) (func_in program.now func.now).named))) }
+    ensures { OnOk result (code.new.items ≡ code.old.items
+        ++ (exs_code (program_of program.now) (slots_in program.now frame.now) (exs_of_values values.now) h
+        (length code.old.items)
+        ++ (values_code (slots_in program.now frame.now) (argument_words (func_in program.now func.now))
+        (all_wide (program_of program.now) (exs_of_values values.now)) (func_in program.now func.now).named h
+        ++ leave_code (slots_in program.now frame.now) (argument_words (func_in program.now func.now))
+        (func_in program.now func.now).named))) }
 {
     emit_values(code, program, frame, values, h)?;
     emit_given(

@@ -45,9 +45,12 @@ fn emit_operand(
     p: &Piece,
     h: u16,
 ) -> Result<u16, NoMemory>
-    requires fits { PiecesFitIn (program_of program.now) (slots_in program.now frame.now) frame.now.sites h (piece_of p.now ∷ []) }
+    requires fits { PiecesFitIn (program_of program.now) (slots_in program.now frame.now) frame.now.sites h
+        (piece_of p.now ∷ []) }
     requires frame { IsLaid program.now frame.now }
-    ensures code { OnOk result (code.new.items ≡ code.old.items ++ pieces_code (program_of program.now) (slots_in program.now frame.now) (piece_of p.now ∷ []) h (length code.old.items)) }
+    ensures code { OnOk result (code.new.items ≡ code.old.items
+        ++ pieces_code (program_of program.now) (slots_in program.now frame.now) (piece_of p.now ∷ []) h
+        (length code.old.items)) }
     ensures next { IfOk result (λ n. n ≡ temp_behind (piece_of p.now) h) }
 {
     match p {
@@ -67,9 +70,12 @@ fn emit_operands(
     ps: &[Piece],
     h: u16,
 ) -> Result<(), NoMemory>
-    requires fits { PiecesFitIn (program_of program.now) (slots_in program.now frame.now) frame.now.sites h (map piece_of ps.now) }
+    requires fits { PiecesFitIn (program_of program.now) (slots_in program.now frame.now) frame.now.sites h
+        (map piece_of ps.now) }
     requires frame { IsLaid program.now frame.now }
-    ensures { OnOk result (code.new.items ≡ code.old.items ++ pieces_code (program_of program.now) (slots_in program.now frame.now) (map piece_of ps.now) h (length code.old.items)) }
+    ensures { OnOk result (code.new.items ≡ code.old.items
+        ++ pieces_code (program_of program.now) (slots_in program.now frame.now) (map piece_of ps.now) h
+        (length code.old.items)) }
 {
     let mut next = h;
     for p in ps {
@@ -88,7 +94,8 @@ fn emit_piece(
 ) -> Result<u16, NoMemory>
     requires temp { ShownFit (slots_in program.now frame.now) h (piece_of p.now ∷ []) }
     requires frame { IsLaid program.now frame.now }
-    ensures shows { OnOk result (code.new.items ≡ code.old.items ++ show_piece (slots_in program.now frame.now) (piece_of p.now) h ∷ []) }
+    ensures shows { OnOk result (code.new.items ≡ code.old.items
+        ++ show_piece (slots_in program.now frame.now) (piece_of p.now) h ∷ []) }
     ensures next { IfOk result (λ n. n ≡ temp_behind (piece_of p.now) h) }
 {
     match p {
@@ -114,7 +121,8 @@ fn emit_more(
 ) -> Result<(), NoMemory>
     requires temps { ShownFit (slots_in program.now frame.now) h (map piece_of ps.now) }
     requires frame { IsLaid program.now frame.now }
-    ensures { OnOk result (code.new.items ≡ code.old.items ++ show_more (slots_in program.now frame.now) (map piece_of ps.now) h) }
+    ensures { OnOk result (code.new.items ≡ code.old.items
+        ++ show_more (slots_in program.now frame.now) (map piece_of ps.now) h) }
 {
     let mut next = h;
     for p in ps {
@@ -136,7 +144,8 @@ fn emit_line(
 ) -> Result<(), NoMemory>
     requires temps { ShownFit (slots_in program.now frame.now) h (map piece_of ps.now) }
     requires frame { IsLaid program.now frame.now }
-    ensures { OnOk result (code.new.items ≡ code.old.items ++ show_line (slots_in program.now frame.now) (map piece_of ps.now) h) }
+    ensures { OnOk result (code.new.items ≡ code.old.items
+        ++ show_line (slots_in program.now frame.now) (map piece_of ps.now) h) }
 {
     match ps {
         [] => put(code, Instr::PrintLine)?,
@@ -159,7 +168,8 @@ fn emit_plain(
 ) -> Result<(), NoMemory>
     requires temps { ShownFit (slots_in program.now frame.now) h (map piece_of ps.now) }
     requires frame { IsLaid program.now frame.now }
-    ensures { OnOk result (code.new.items ≡ code.old.items ++ show_plain (slots_in program.now frame.now) (map piece_of ps.now) h) }
+    ensures { OnOk result (code.new.items ≡ code.old.items
+        ++ show_plain (slots_in program.now frame.now) (map piece_of ps.now) h) }
 {
     let mut next = h;
     for p in ps {
@@ -179,7 +189,8 @@ fn emit_shown(
 ) -> Result<(), NoMemory>
     requires temps { ShownFit (slots_in program.now frame.now) h (map piece_of ps.now) }
     requires frame { IsLaid program.now frame.now }
-    ensures { OnOk result (code.new.items ≡ code.old.items ++ show_code (slots_in program.now frame.now) line (map piece_of ps.now) h) }
+    ensures { OnOk result (code.new.items ≡ code.old.items
+        ++ show_code (slots_in program.now frame.now) line (map piece_of ps.now) h) }
 {
     if line {
         emit_line(code, program, frame, ps, h)
@@ -198,10 +209,12 @@ pub fn emit_print(
     ps: &[Piece],
     h: u16,
 ) -> Result<(), NoMemory>
-    requires fits { PiecesFitIn (program_of program.now) (slots_in program.now frame.now) frame.now.sites h (map piece_of ps.now) }
+    requires fits { PiecesFitIn (program_of program.now) (slots_in program.now frame.now) frame.now.sites h
+        (map piece_of ps.now) }
     requires frame { IsLaid program.now frame.now }
     ensures { OnOk result (code.new.items ≡ code.old.items
-        ++ (pieces_code (program_of program.now) (slots_in program.now frame.now) (map piece_of ps.now) h (length code.old.items) ++ show_code (slots_in program.now frame.now) line (map piece_of ps.now) h)) }
+        ++ (pieces_code (program_of program.now) (slots_in program.now frame.now) (map piece_of ps.now) h
+        (length code.old.items) ++ show_code (slots_in program.now frame.now) line (map piece_of ps.now) h)) }
 {
     emit_operands(code, program, frame, ps, h)?;
     emit_shown(code, program, frame, line, ps, h)?;
@@ -217,10 +230,12 @@ pub fn emit_raised(
     e: &Expr,
     h: u16,
 ) -> Result<(), NoMemory>
-    requires fits { (h < frame.now.temps) × Fits (program_of program.now) (slots_in program.now frame.now) frame.now.sites h (ex_of e.now) }
+    requires fits { (h < frame.now.temps) × Fits (program_of program.now) (slots_in program.now frame.now) frame.now.sites h
+        (ex_of e.now) }
     requires frame { IsLaid program.now frame.now }
     ensures { OnOk result (code.new.items ≡ code.old.items
-        ++ (ex_code (program_of program.now) (slots_in program.now frame.now) (ex_of e.now) h (length code.old.items) ++ raised_code (type_of type_id.0) (temp (slots_in program.now frame.now) h) ∷ [])) }
+        ++ (ex_code (program_of program.now) (slots_in program.now frame.now) (ex_of e.now) h (length code.old.items)
+        ++ raised_code (type_of type_id.0) (temp (slots_in program.now frame.now) h) ∷ [])) }
 {
     emit_expr(code, program, frame, e, h)?;
     put(code, raised(type_id, frame.temp(h)))?;
@@ -235,10 +250,12 @@ pub fn emit_exit(
     e: &Expr,
     h: u16,
 ) -> Result<(), NoMemory>
-    requires fits { (h < frame.now.temps) × Fits (program_of program.now) (slots_in program.now frame.now) frame.now.sites h (ex_of e.now) }
+    requires fits { (h < frame.now.temps) × Fits (program_of program.now) (slots_in program.now frame.now) frame.now.sites h
+        (ex_of e.now) }
     requires frame { IsLaid program.now frame.now }
     ensures { OnOk result (code.new.items ≡ code.old.items
-        ++ (ex_code (program_of program.now) (slots_in program.now frame.now) (ex_of e.now) h (length code.old.items) ++ Instr.Exit (temp (slots_in program.now frame.now) h) ∷ [])) }
+        ++ (ex_code (program_of program.now) (slots_in program.now frame.now) (ex_of e.now) h (length code.old.items)
+        ++ Instr.Exit (temp (slots_in program.now frame.now) h) ∷ [])) }
 {
     emit_expr(code, program, frame, e, h)?;
     let a = frame.temp(h);

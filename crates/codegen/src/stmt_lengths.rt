@@ -63,7 +63,8 @@ fn shown_len(line: bool, ps: &[Piece]) -> Result<u32, NoMemory>
 }
 
 fn print_len(program: &Program, line: bool, ps: &[Piece]) -> Result<u32, NoMemory>
-    ensures { IfOk result (λ n. n ≡ pieces_size (program_of program.now) (map piece_of ps.now) + shown_size line (map piece_of ps.now)) }
+    ensures { IfOk result (λ n. n ≡ pieces_size (program_of program.now) (map piece_of ps.now) + shown_size line
+        (map piece_of ps.now)) }
 {
     let operands = pieces_len(program, ps)?;
     let shown = shown_len(line, ps)?;
@@ -122,7 +123,8 @@ fn assign_len(program: &Program, ls: &[Left], values: &Values) -> Result<u32, No
 // The operands of a place, its address, if there is one, and `more` instructions.
 #[tactic(auto, using(expression_code::proofs::Steps::place_total))]
 fn reached_len(program: &Program, place: &Place, more: u32) -> Result<u32, NoMemory>
-    ensures { IfOk result (λ n. n ≡ place_size (program_of program.now) (place_of place.now) (address_size (place_of place.now) + more)) }
+    ensures { IfOk result (λ n. n ≡ place_size (program_of program.now) (place_of place.now)
+        (address_size (place_of place.now) + more)) }
 {
     let operands = place_len(program, place)?;
     let address = address_len(place)?;
@@ -132,7 +134,8 @@ fn reached_len(program: &Program, place: &Place, more: u32) -> Result<u32, NoMem
 
 // A read of the place stands before the operand, the operation and a write after it.
 fn update_len(program: &Program, place: &Place, e: &Expr) -> Result<u32, NoMemory>
-    ensures { IfOk result (λ n. n ≡ place_size (program_of program.now) (place_of place.now) (address_size (place_of place.now) + 1 + size (program_of program.now) (ex_of e.now) + 1 + 1)) }
+    ensures { IfOk result (λ n. n ≡ place_size (program_of program.now) (place_of place.now)
+        (address_size (place_of place.now) + 1 + size (program_of program.now) (ex_of e.now) + 1 + 1)) }
 {
     let n = expr_len(program, e)?;
     reached_len(program, place, plus(n, 3)?)
@@ -140,7 +143,8 @@ fn update_len(program: &Program, place: &Place, e: &Expr) -> Result<u32, NoMemor
 
 // `++` and `--`.
 fn bump_len(program: &Program, place: &Place) -> Result<u32, NoMemory>
-    ensures { IfOk result (λ n. n ≡ place_size (program_of program.now) (place_of place.now) (address_size (place_of place.now) + 1 + 2 + 1)) }
+    ensures { IfOk result (λ n. n ≡ place_size (program_of program.now) (place_of place.now)
+        (address_size (place_of place.now) + 1 + 2 + 1)) }
 {
     reached_len(program, place, BUMP)
 }
@@ -170,7 +174,8 @@ fn leave_len(named: &[SiteId]) -> Result<u32, NoMemory>
 
 fn return_len(program: &Program, func: &Func, values: &Values) -> Result<u32, NoMemory>
     ensures { IfOk result (λ n. n ≡ exs_size (program_of program.now) (exs_of_values values.now)
-        + (values_size (all_wide (program_of program.now) (exs_of_values values.now)) (func_in program.now func.now).named + leave_size (func_in program.now func.now).named)) }
+        + (values_size (all_wide (program_of program.now) (exs_of_values values.now))
+        (func_in program.now func.now).named + leave_size (func_in program.now func.now).named)) }
 {
     let n = values_len(program, values)?;
     let given = given_len(values_words(program, values)?, &func.named)?;
@@ -206,7 +211,8 @@ fn loop_len(
     body: u32,
     post: u32,
 ) -> Result<u32, NoMemory>
-    ensures { IfOk result (λ n. n ≡ test_size (program_of program.now) (test_of test.now) + body + renew_size (site_numbers sites.now) + post + 1) }
+    ensures { IfOk result (λ n. n ≡ test_size (program_of program.now) (test_of test.now) + body + renew_size
+        (site_numbers sites.now) + post + 1) }
 {
     let header = test_len(program, test)?;
     let renewal = renew_len(sites)?;
@@ -263,7 +269,8 @@ pub fn pair_len(program: &Program, key: &Left, value: &Left) -> Result<u32, NoMe
 
 // A `range` over a number whose body has `body`.
 fn count_len(program: &Program, e: &Expr, key: &Left, body: u32) -> Result<u32, NoMemory>
-    ensures { IfOk result (λ n. n ≡ size (program_of program.now) (ex_of e.now) + 1 + 2 + lefts_sized (program_of program.now) (left_of key.now ∷ []) (lefts_size (left_of key.now ∷ [])) + body + 3) }
+    ensures { IfOk result (λ n. n ≡ size (program_of program.now) (ex_of e.now) + 1 + 2 + lefts_sized (program_of program.now)
+        (left_of key.now ∷ []) (lefts_size (left_of key.now ∷ [])) + body + 3) }
 {
     let operand = expr_len(program, e)?;
     let written = key_len(program, key)?;
@@ -297,7 +304,8 @@ fn elements_len(
     value: &Left,
     body: u32,
 ) -> Result<u32, NoMemory>
-    ensures { IfOk result (λ n. n ≡ size (program_of program.now) (ex_of e.now) + 1 + (4 + element_round_size (program_of program.now) (left_of key.now) (left_of value.now) + body + 3)) }
+    ensures { IfOk result (λ n. n ≡ size (program_of program.now) (ex_of e.now) + 1 +
+        (4 + element_round_size (program_of program.now) (left_of key.now) (left_of value.now) + body + 3)) }
 {
     let copy = last_len(program, e)?;
     let rounds = array_len(pair_len(program, key, value)?, body)?;
@@ -307,7 +315,8 @@ fn elements_len(
 #[cycle(lengths)]
 #[tactic(auto, using(typed::proofs::Rows::stmt_rows))]
 fn stmt_len(program: &Program, func: &Func, s: &Stmt) -> Result<u32, NoMemory>
-    ensures { IfOk result (λ n. n ≡ st_size (program_of program.now) (argument_words (func_in program.now func.now)) (func_in program.now func.now).named (st_of s.now)) }
+    ensures { IfOk result (λ n. n ≡ st_size (program_of program.now) (argument_words (func_in program.now func.now))
+        (func_in program.now func.now).named (st_of s.now)) }
 {
     match s {
         Stmt::Declare(sites) => number(sites.len()),
@@ -350,7 +359,8 @@ fn stmt_len(program: &Program, func: &Func, s: &Stmt) -> Result<u32, NoMemory>
 /// Statements.
 #[cycle(lengths)]
 pub fn stmts_len(program: &Program, func: &Func, ss: &[Stmt]) -> Result<u32, NoMemory>
-    ensures { IfOk result (λ n. n ≡ sts_size (program_of program.now) (argument_words (func_in program.now func.now)) (func_in program.now func.now).named (sts_of ss.now)) }
+    ensures { IfOk result (λ n. n ≡ sts_size (program_of program.now) (argument_words (func_in program.now func.now))
+        (func_in program.now func.now).named (sts_of ss.now)) }
 {
     let mut total = 0;
     for s in ss {

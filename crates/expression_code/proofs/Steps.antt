@@ -12,7 +12,7 @@ use Rattle.typed_syntax.specs.Types.{TypeTree, width, part_type, part_offset}
 use Rattle.typed_syntax.specs.Paths.{offset, type_at}
 use Rattle.typed.specs.Positions.{position}
 use Rattle.typed_syntax.specs.Syntax.{Program, Pl, local, global, Steps, here, inner, at_index, path_of}
-use Rattle.typed_syntax.specs.Frames.{steps_far}
+use Rattle.frames.specs.Frames.{steps_far}
 use Rattle.typed.specs.View.{ex_of, place_of, steps_of}
 use Rattle.expression_code.specs.Parts.{part_number}
 use Rattle.expression_code.specs.Temps.{IndicesFit, OperandsFit, StepsFitIn, steps_in}

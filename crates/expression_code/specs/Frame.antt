@@ -3,11 +3,12 @@ use Rattle.std.specs.Prelude.{◌≡◌, ℕ, ◌+◌, ◌≤◌, List, [], ◌�
 use Rattle.heap_bump.specs.Words.{first_address}
 use Rattle.typed_syntax.specs.Types.{TypeTree, ints, width}
 use Rattle.typed_syntax.specs.Syntax.{Func}
-use Rattle.typed_syntax.specs.Frames.{words_between}
+use Rattle.frames.specs.Frames.{cells_between, words_between}
 use Rattle.typed.specs.Trees.{trees}
 use Rattle.typed.specs.View.{func_of, program_of, site_types}
 use Rattle.typed.specs.declared.program.Func.{Func as FuncData}
 use Rattle.typed.specs.declared.program.Program.{Program}
+use Rattle.placement.specs.Told.{placement_of}
 use Rattle.frame_layout.specs.Layout.{starts}
 use Rattle.program_code.specs.Code.{Slots}
 use Rattle.expression_code.specs.declared.slots.Frame.{Frame}
@@ -23,7 +24,15 @@ abbrev pub func_in : Program → FuncData → Func
 func_in p f = func_of (trees p.types) f
 
 abbrev pub slots_in : Program → Frame → Slots
-slots_in p f = record { outgoing = f.outgoing; temps = f.temps; first = f.first; sites = sites_in p; globals = globals_in p }
+slots_in p f = record {
+  outgoing = f.outgoing;
+  temps = f.temps;
+  first = f.first;
+  count = f.sites;
+  placement = placement_of f.homes.placement;
+  sites = sites_in p;
+  globals = globals_in p;
+}
 
 -- how many words the variables of each site have is told by 16 bits
 abbrev pub AreSmall : List TypeTree → Type 0
@@ -37,12 +46,19 @@ addresses sites (x ∷ xs) at = at ∷ addresses sites xs (at + width (get_or si
 abbrev pub global_addresses : Program → List ℕ
 global_addresses p = addresses (sites_in p) (globals_in p) first_address
 
+-- the cells of a frame, and the words of its sites
+abbrev pub cells_in : Frame → ℕ
+cells_in f = cells_between (placement_of f.homes.placement) f.first f.sites
+
+abbrev pub words_in : Program → Frame → ℕ
+words_in p f = words_between (placement_of f.homes.placement) (sites_in p) f.first f.sites
+
 -- what a frame knows beside its slots: where each of its sites starts, and the address of each package variable; the program's types are small
 pub record KnowsPlaces (p : Program) (f : Frame) : Type 0 where
   pub words : AreSmall (sites_in p)
-  pub sites : f.starts.items ≡ starts (sites_in p) f.first 0 f.sites
-  pub globals : f.globals.items ≡ global_addresses p
+  pub sites : f.starts.items ≡ starts (placement_of f.homes.placement) (sites_in p) f.first (cells_in f) f.sites
+  pub globals : f.homes.globals.items ≡ global_addresses p
 
 -- its slots are numbers of 16 bits, and it knows the places of variables
 abbrev pub IsLaid : Program → Frame → Type 0
-IsLaid p f = (f.outgoing + f.temps + words_between (sites_in p) f.first f.sites ≤ 65535) × KnowsPlaces p f
+IsLaid p f = (f.outgoing + f.temps + cells_in f + words_in p f ≤ 65535) × KnowsPlaces p f

@@ -1,14 +1,14 @@
 -- That the slots of a frame suffice for expressions and places.
-use Rattle.std.specs.Prelude.{ℕ, ◌+◌, ◌<◌, ◌≤◌, Bool, true, false, length}
+use Rattle.std.specs.Prelude.{◌≡◌, ℕ, ◌+◌, ◌<◌, ◌≤◌, Bool, true, false, length}
 use Rattle.typed_syntax.specs.Types.{TypeTree, width, part_type, part_offset}
 use Rattle.typed_syntax.specs.Paths.{offset}
 use Rattle.typed_syntax.specs.Syntax.{Ex, Exs, Pl, Steps, here, inner, at_index, Program, constant, read, unary, binary, logical_and, logical_or, call, part_of, literal, Elements, no_elements, element, local, global, none, more, results, read_int, arguments_of, results_of, type_named, path_of, wide, ascend, words_through, gap_behind}
-use Rattle.typed_syntax.specs.Frames.{far}
+use Rattle.frames.specs.Frames.{far}
 use Rattle.program_code.specs.Code.{Slots, site_type, site_words, part_words, place_above, global_type, global_offset, global_words}
 
--- the site is among the n of a frame
+-- the site is among the n of a frame, and its variables live there
 abbrev pub SiteFits : Slots → (n site : ℕ) → Type 0
-SiteFits s n site = (s.first ≤ site) × (site < s.first + n)
+SiteFits s n site = (s.first ≤ site) × (site < s.first + n) × (s.placement.on_heap site ≡ false)
 
 -- the steps of a place
 abbrev pub steps_in : Pl → Steps

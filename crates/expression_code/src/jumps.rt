@@ -68,7 +68,8 @@ pub fn pass_unless(
 ) -> Result<(), NoMemory>
     requires temp { h ≤ frame.now.temps }
     requires frame { IsLaid program.now frame.now }
-    ensures { OnOk result (code.new.items ≡ code.old.items ++ Instr.JumpZero (temp (slots_in program.now frame.now) h) (length code.old.items + len + 2) ∷ []) }
+    ensures { OnOk result (code.new.items ≡ code.old.items
+        ++ Instr.JumpZero (temp (slots_in program.now frame.now) h) (length code.old.items + len + 2) ∷ []) }
 {
     jump_if_zero(code, frame.temp(h), len, 2)?;
     Ok(())

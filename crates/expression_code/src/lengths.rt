@@ -135,7 +135,8 @@ fn elements_len(
     is_ordered: bool,
     es: &[Element],
 ) -> Result<u32, NoMemory>
-    ensures { IfOk result (λ n. n ≡ elements_size (program_of program.now) (type_named (program_of program.now) id.0) is_ordered (elements_of es.now)) }
+    ensures { IfOk result (λ n. n ≡ elements_size (program_of program.now)
+        (type_named (program_of program.now) id.0) is_ordered (elements_of es.now)) }
 {
     let mut total = 0;
     for (i, element) in es.iter().enumerate() {

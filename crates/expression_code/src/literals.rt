@@ -51,7 +51,8 @@ pub fn behind_len(
     number: u32,
     behind: &[Element],
 ) -> u32
-    ensures is { result ≡ (if is_ordered then gap_size (gap_in (type_named (program_of program.now) id.0) number (elements_of behind.now)) else 1) }
+    ensures is { result ≡ (if is_ordered then gap_size
+        (gap_in (type_named (program_of program.now) id.0) number (elements_of behind.now)) else 1) }
     ensures few { result ≤ 1 }
 {
     if is_ordered && gap_behind(program, id, number, behind) == 0 {
@@ -71,10 +72,12 @@ pub fn emit_gap(
     behind: &[Element],
     h: u16,
 ) -> Result<(), NoMemory>
-    requires room { h + through_part (type_named (program_of program.now) id.0) number + gap_in (type_named (program_of program.now) id.0) number (elements_of behind.now) ≤ frame.now.temps }
+    requires room { h + through_part (type_named (program_of program.now) id.0) number + gap_in
+        (type_named (program_of program.now) id.0) number (elements_of behind.now) ≤ frame.now.temps }
     requires frame { IsLaid program.now frame.now }
     ensures { OnOk result (code.new.items ≡ code.old.items
-        ++ gap_code (gap_in (type_named (program_of program.now) id.0) number (elements_of behind.now)) (temp (slots_in program.now frame.now) (h + through_part (type_named (program_of program.now) id.0) number))) }
+        ++ gap_code (gap_in (type_named (program_of program.now) id.0) number (elements_of behind.now))
+        (temp (slots_in program.now frame.now) (h + through_part (type_named (program_of program.now) id.0) number))) }
 {
     let gap = gap_behind(program, id, number, behind) as u16;
     if gap > 0 {
@@ -87,10 +90,13 @@ pub fn emit_gap(
 
 /// A part of a value of a type goes from temps from `from` on to its place in a literal in temps from h on.
 pub fn moved(program: &Program, frame: &Frame, id: TypeId, number: u32, from: u16, h: u16) -> Instr
-    requires place { h + part_offset (type_named (program_of program.now) id.0) number + width (part_type (type_named (program_of program.now) id.0) number) ≤ frame.now.temps }
+    requires place { h + part_offset (type_named (program_of program.now) id.0) number + width
+        (part_type (type_named (program_of program.now) id.0) number) ≤ frame.now.temps }
     requires from { from ≤ frame.now.temps }
     requires frame { IsLaid program.now frame.now }
-    ensures { result ≡ moves_of (width (part_type (type_named (program_of program.now) id.0) number)) (temp (slots_in program.now frame.now) (h + part_offset (type_named (program_of program.now) id.0) number)) (temp (slots_in program.now frame.now) from) }
+    ensures { result ≡ moves_of (width (part_type (type_named (program_of program.now) id.0) number))
+        (temp (slots_in program.now frame.now) (h + part_offset (type_named (program_of program.now) id.0) number))
+        (temp (slots_in program.now frame.now) from) }
 {
     let n = program.types.width(program.types.part(id, number)) as u16;
     let to = h + program.types.part_offset(id, number) as u16;
@@ -99,9 +105,12 @@ pub fn moved(program: &Program, frame: &Frame, id: TypeId, number: u32, from: u1
 
 /// A part of a value of a type in temps from h on goes to these temps.
 pub fn taken(program: &Program, frame: &Frame, id: TypeId, number: u32, h: u16) -> Instr
-    requires place { h + part_offset (type_named (program_of program.now) id.0) number + width (part_type (type_named (program_of program.now) id.0) number) ≤ frame.now.temps }
+    requires place { h + part_offset (type_named (program_of program.now) id.0) number + width
+        (part_type (type_named (program_of program.now) id.0) number) ≤ frame.now.temps }
     requires frame { IsLaid program.now frame.now }
-    ensures { result ≡ moves_of (width (part_type (type_named (program_of program.now) id.0) number)) (temp (slots_in program.now frame.now) h) (temp (slots_in program.now frame.now) (h + part_offset (type_named (program_of program.now) id.0) number)) }
+    ensures { result ≡ moves_of (width (part_type (type_named (program_of program.now) id.0) number))
+        (temp (slots_in program.now frame.now) h)
+        (temp (slots_in program.now frame.now) (h + part_offset (type_named (program_of program.now) id.0) number)) }
 {
     let n = program.types.width(program.types.part(id, number)) as u16;
     let from = h + program.types.part_offset(id, number) as u16;

@@ -3,7 +3,7 @@ ghost use Rattle.std.specs.Prelude.{◌≡◌, ◌≤◌, get_or, if◌then◌el
 ghost use Rattle.typed_syntax.specs.Types.{ints, width};
 ghost use Rattle.typed_syntax.specs.Paths.{offset as offset_at, type_at};
 ghost use Rattle.typed_syntax.specs.Syntax.{local, path_of, site_type as type_of_site, type_named};
-ghost use Rattle.typed_syntax.specs.Frames.{steps_far};
+ghost use Rattle.frames.specs.Frames.{steps_far};
 ghost use Rattle.typed.specs.View.{place_of, program_of, steps_of as these_steps};
 ghost use Rattle.expression_code.specs.Frame.{globals_in, sites_in, slots_in, IsLaid};
 ghost use Rattle.expression_code.specs.Parts.{part_number as number_of};
@@ -74,14 +74,16 @@ pub fn site_type(program: &Program, site: SiteId) -> TypeId
 
 /// The type of a package variable.
 pub fn global_type(program: &Program, number: u32) -> TypeId
-    ensures { type_named (program_of program.now) result.0 ≡ get_or (sites_in program.now) (get_or (globals_in program.now) number 0) ints }
+    ensures { type_named (program_of program.now) result.0
+        ≡ get_or (sites_in program.now) (get_or (globals_in program.now) number 0) ints }
 {
     site_type(program, site_of_global(program, number))
 }
 
 /// The type of the part that steps lead to from values of a type.
 fn end_type(program: &Program, id: TypeId, steps: &[Step]) -> TypeId
-    ensures { type_named (program_of program.now) result.0 ≡ type_at (type_named (program_of program.now) id.0) (path_of (these_steps steps.now)) }
+    ensures { type_named (program_of program.now) result.0
+        ≡ type_at (type_named (program_of program.now) id.0) (path_of (these_steps steps.now)) }
 {
     let mut part = id;
     for step in steps {

@@ -6,7 +6,7 @@ ghost use Rattle.typed_syntax.specs.Types.{width};
 ghost use Rattle.typed_syntax.specs.Paths.{offset};
 ghost use Rattle.typed_syntax.specs.Syntax.{global, local, path_of, type_named};
 ghost use Rattle.typed.specs.View.{place_of, program_of, steps_of as these_steps};
-ghost use Rattle.typed_syntax.specs.Frames.{far, steps_far};
+ghost use Rattle.frames.specs.Frames.{far, steps_far};
 ghost use Rattle.expression_code.specs.Frame.{slots_in, IsLaid};
 ghost use Rattle.expression_code.specs.Temps.{AddressFits, IndicesFit, PlaceFits, reached};
 ghost use Rattle.program_code.specs.Code.{above_address as above_address_of, address_code, address_size, fetch_code, fetch_part as part_fetched, index_code, index_count as count_of, land_code, land_part as part_landed, place_above as above_operands, read_code, steps_above, steps_address, write_code};
@@ -94,7 +94,9 @@ fn emit_indices(
     requires indices { IndicesFit (type_named (program_of program.now) id.0) (these_steps steps.now) }
     requires words { width (type_named (program_of program.now) id.0) ≤ 65535 }
     requires frame { IsLaid program.now frame.now }
-    ensures { OnOk result (code.new.items ≡ code.old.items ++ index_code (slots_in program.now frame.now) (type_named (program_of program.now) id.0) (these_steps steps.now) first at) }
+    ensures { OnOk result (code.new.items ≡ code.old.items
+        ++ index_code (slots_in program.now frame.now) (type_named (program_of program.now) id.0)
+        (these_steps steps.now) first at) }
 {
     let a = frame.temp(at);
     let (mut part, mut next) = (id, first);
@@ -133,7 +135,9 @@ fn emit_part_address(
     requires words { width (type_named (program_of program.now) id.0) ≤ 65535 }
     requires slot { whole + offset (type_named (program_of program.now) id.0) (path_of (these_steps steps.now)) ≤ 65535 }
     requires frame { IsLaid program.now frame.now }
-    ensures { OnOk result (code.new.items ≡ code.old.items ++ steps_address (slots_in program.now frame.now) whole (type_named (program_of program.now) id.0) (these_steps steps.now) first at) }
+    ensures { OnOk result (code.new.items ≡ code.old.items
+        ++ steps_address (slots_in program.now frame.now) whole (type_named (program_of program.now) id.0)
+        (these_steps steps.now) first at) }
 {
     let (mut part, mut slot) = (id, whole);
     for (i, step) in steps.iter().enumerate() {
@@ -166,7 +170,8 @@ pub fn emit_address(
     requires operands { above_operands (place_of place.now) first ≤ frame.now.temps }
     requires place { PlaceFits (slots_in program.now frame.now) frame.now.sites (place_of place.now) }
     requires frame { IsLaid program.now frame.now }
-    ensures { OnOk result (code.new.items ≡ code.old.items ++ address_code (slots_in program.now frame.now) (place_of place.now) first at) }
+    ensures { OnOk result (code.new.items ≡ code.old.items
+        ++ address_code (slots_in program.now frame.now) (place_of place.now) first at) }
 {
     match place {
         Place::Local(site, steps) => {
@@ -195,7 +200,8 @@ fn fetch_part(
     requires address { at + steps_far (these_steps steps.now) ≤ frame.now.temps }
     requires place { PlaceFits (slots_in program.now frame.now) frame.now.sites (local site.0 (these_steps steps.now)) }
     requires frame { IsLaid program.now frame.now }
-    ensures { result ≡ part_fetched (slots_in program.now frame.now) site.0 (these_steps steps.now) (steps_far (these_steps steps.now)) at h }
+    ensures { result ≡ part_fetched (slots_in program.now frame.now) site.0 (these_steps steps.now)
+        (steps_far (these_steps steps.now)) at h }
 {
     let (n, a) = (part_words(program, frame, site, steps), frame.temp(h));
     if is_far(steps) {
@@ -219,7 +225,8 @@ fn land_part(
     requires address { at + steps_far (these_steps steps.now) ≤ frame.now.temps }
     requires place { PlaceFits (slots_in program.now frame.now) frame.now.sites (local site.0 (these_steps steps.now)) }
     requires frame { IsLaid program.now frame.now }
-    ensures { result ≡ part_landed (slots_in program.now frame.now) site.0 (these_steps steps.now) (steps_far (these_steps steps.now)) at h }
+    ensures { result ≡ part_landed (slots_in program.now frame.now) site.0 (these_steps steps.now)
+        (steps_far (these_steps steps.now)) at h }
 {
     let (n, c) = (part_words(program, frame, site, steps), frame.temp(h));
     if is_far(steps) {
@@ -292,7 +299,8 @@ pub fn emit_fetch(
     requires address { AddressFits frame.now.temps at (place_of place.now) }
     requires place { PlaceFits (slots_in program.now frame.now) frame.now.sites (place_of place.now) }
     requires frame { IsLaid program.now frame.now }
-    ensures { OnOk result (code.new.items ≡ code.old.items ++ fetch_code (slots_in program.now frame.now) (place_of place.now) at h ∷ []) }
+    ensures { OnOk result (code.new.items ≡ code.old.items
+        ++ fetch_code (slots_in program.now frame.now) (place_of place.now) at h ∷ []) }
 {
     match place {
         Place::Local(site, steps) => put(code, fetch_part(program, frame, *site, steps, at, h)),
@@ -316,7 +324,8 @@ pub fn emit_land(
     requires address { AddressFits frame.now.temps at (place_of place.now) }
     requires place { PlaceFits (slots_in program.now frame.now) frame.now.sites (place_of place.now) }
     requires frame { IsLaid program.now frame.now }
-    ensures { OnOk result (code.new.items ≡ code.old.items ++ land_code (slots_in program.now frame.now) (place_of place.now) at h ∷ []) }
+    ensures { OnOk result (code.new.items ≡ code.old.items
+        ++ land_code (slots_in program.now frame.now) (place_of place.now) at h ∷ []) }
 {
     match place {
         Place::Local(site, steps) => put(code, land_part(program, frame, *site, steps, at, h)),
@@ -340,7 +349,8 @@ pub fn emit_read(
     requires operands { above_operands (place_of place.now) h ≤ frame.now.temps }
     requires place { PlaceFits (slots_in program.now frame.now) frame.now.sites (place_of place.now) }
     requires frame { IsLaid program.now frame.now }
-    ensures { OnOk result (code.new.items ≡ code.old.items ++ read_code (slots_in program.now frame.now) (place_of place.now) at h) }
+    ensures { OnOk result (code.new.items ≡ code.old.items
+        ++ read_code (slots_in program.now frame.now) (place_of place.now) at h) }
 {
     emit_address(code, program, frame, place, h, at)?;
     emit_fetch(code, program, frame, place, at, h)?;
@@ -363,7 +373,8 @@ pub fn emit_write(
     requires operands { above_operands (place_of place.now) first ≤ frame.now.temps }
     requires place { PlaceFits (slots_in program.now frame.now) frame.now.sites (place_of place.now) }
     requires frame { IsLaid program.now frame.now }
-    ensures { OnOk result (code.new.items ≡ code.old.items ++ write_code (slots_in program.now frame.now) (place_of place.now) first at h) }
+    ensures { OnOk result (code.new.items ≡ code.old.items
+        ++ write_code (slots_in program.now frame.now) (place_of place.now) first at h) }
 {
     emit_address(code, program, frame, place, first, at)?;
     emit_land(code, program, frame, place, at, h)?;

@@ -1,6 +1,7 @@
 //! The slots of a frame, and the addresses of the package variables.
 ghost use Rattle.std.specs.Prelude.{◌≡◌, ◌+◌, ◌<◌, ◌≤◌, IfOk, length};
-ghost use Rattle.typed_syntax.specs.Frames.{words_between};
+ghost use Rattle.frames.specs.Frames.{cells_between, words_between};
+ghost use Rattle.placement.specs.Told.{placement_of};
 ghost use Rattle.program_code.specs.Code.{global_address, site_slot, site_words as words_of_site};
 ghost use Rattle.expression_code.specs.Temps.{SiteFits};
 ghost use Rattle.expression_code.specs.Frame.{AreSmall, IsLaid, global_addresses as addresses_of, globals_in, sites_in, slots_in};
@@ -8,13 +9,20 @@ ghost use Rattle.expression_code.specs.Frame.{AreSmall, IsLaid, global_addresses
 use base::{NoMemory, SiteId};
 use frame_layout::{FrameLayout, site_starts, site_words};
 use heap_bump::HEAP_LOW;
+use placement::Placement;
 use std::alloc::Global;
 use typed::{Func, INT, Program};
 
-/// A frame from its lowest slot up: the words of the outgoing area, the temps, and the words of the sites from a
+/// Where variables live outside of frames: which do, and the addresses of the package variables. Both are told once for a
+/// program, and go from the frame of one function to that of the next.
+#[derive(Drop)]
+pub struct Homes {
+    pub placement: Placement,
+    pub globals: Vec<u64>,
+}
+
+/// A frame from its lowest slot up: the words of the outgoing area, the temps, and the cells and the words of the sites from a
 /// first one on. `starts` are the words before each of these, so that a slot is told without a walk over the sites.
-/// `globals` are the addresses of the package variables: they are worked out once for a program, and go from the frame
-/// of one function to that of the next.
 #[derive(Drop)]
 pub struct Frame {
     pub outgoing: u16,
@@ -22,7 +30,7 @@ pub struct Frame {
     pub first: u32,
     pub sites: u32,
     pub starts: Vec<u16>,
-    pub globals: Vec<u64>,
+    pub homes: Homes,
 }
 
 /// The address of each package variable. They stand one after the other in the heap; an address past 64 bits counts as
@@ -56,17 +64,19 @@ impl Frame {
         program: &Program,
         func: &Func,
         layout: FrameLayout,
-        globals: Vec<u64>,
+        homes: Homes,
     ) -> Result<Frame, NoMemory>
-        requires globals { globals.items ≡ addresses_of program.now }
-        requires words { layout.outgoing + layout.temps + words_between (sites_in program.now) func.now.first_site func.now.sites ≤ 65535 }
+        requires globals { homes.globals.items ≡ addresses_of program.now }
+        requires words { layout.outgoing + layout.temps + cells_between (placement_of homes.placement) func.now.first_site func.now.sites
+            + words_between (placement_of homes.placement) (sites_in program.now) func.now.first_site func.now.sites ≤ 65535 }
         ensures laid { IfOk result (λ f. IsLaid program.now f) }
         ensures slots { IfOk result (λ f. slots_in program.now f
-            ≡ record { outgoing = layout.outgoing; temps = layout.temps; first = func.now.first_site; sites = sites_in program.now; globals = globals_in program.now }) }
+            ≡ record { outgoing = layout.outgoing; temps = layout.temps; first = func.now.first_site; count = func.now.sites; placement = placement_of homes.placement; sites = sites_in program.now; globals = globals_in program.now }) }
         ensures sites { IfOk result (λ f. f.sites ≡ func.now.sites) }
+        ensures homes { IfOk result (λ f. f.homes ≡ homes) }
     {
         let (first, sites) = (func.first_site, func.sites);
-        let starts = site_starts(alloc, program, first, sites)?;
+        let starts = site_starts(alloc, program, &homes.placement, first, sites)?;
         tell_words(program);
         Ok(Frame {
             outgoing: layout.outgoing,
@@ -74,15 +84,15 @@ impl Frame {
             first,
             sites,
             starts,
-            globals,
+            homes,
         })
     }
 
-    /// Lets go of a frame, but for the addresses of the package variables.
-    pub fn into_globals(self) -> Vec<u64>
-        ensures { result.items ≡ self.globals.items }
+    /// Lets go of a frame, but for what the next one takes over.
+    pub fn into_homes(self) -> Homes
+        ensures { result ≡ self.homes }
     {
-        self.globals
+        self.homes
     }
 
     /// The slot of a temp.
@@ -93,7 +103,7 @@ impl Frame {
         self.outgoing + h
     }
 
-    /// The first slot of a site.
+    /// The first slot of a site, whose variables live in the frame.
     pub fn of_site(&self, program: &Program, site: SiteId) -> u16
         requires site { SiteFits (slots_in program.now self.now) self.now.sites site.0 }
         requires frame { IsLaid program.now self.now }
@@ -103,7 +113,7 @@ impl Frame {
         self.outgoing + self.temps + before
     }
 
-    /// The words of a site.
+    /// The words of a site, whose variables live in the frame.
     pub fn width_of(&self, program: &Program, site: SiteId) -> u16
         requires site { SiteFits (slots_in program.now self.now) self.now.sites site.0 }
         requires frame { IsLaid program.now self.now }
@@ -118,6 +128,6 @@ impl Frame {
         requires frame { IsLaid program.now self.now }
         ensures { result ≡ global_address (slots_in program.now self.now) number }
     {
-        self.globals[number as usize]
+        self.homes.globals[number as usize]
     }
 }

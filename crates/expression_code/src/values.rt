@@ -88,7 +88,8 @@ fn emit_call(
 ) -> Result<(), NoMemory>
     requires fits { CallFits (program_of program.now) (slots_in program.now frame.now) frame.now.sites h f.0 }
     requires frame { IsLaid program.now frame.now }
-    ensures { OnOk result (code.new.items ≡ code.old.items ++ call_code (program_of program.now) (slots_in program.now frame.now) f.0 h) }
+    ensures { OnOk result (code.new.items ≡ code.old.items
+        ++ call_code (program_of program.now) (slots_in program.now frame.now) f.0 h) }
 {
     let arguments = arguments_of(program, f)? as u16;
     let results = results_of(program, f)? as u16;
@@ -110,7 +111,8 @@ fn pass_both(
     requires temp { h ≤ frame.now.temps }
     requires frame { IsLaid program.now frame.now }
     ensures { OnOk result (code.new.items ≡ code.old.items
-        ++ Instr.JumpZero (temp (slots_in program.now frame.now) h) (length code.old.items + 1 + size (program_of program.now) (ex_of second.now)) ∷ []) }
+        ++ Instr.JumpZero (temp (slots_in program.now frame.now) h)
+        (length code.old.items + 1 + size (program_of program.now) (ex_of second.now)) ∷ []) }
 {
     let len = expr_len(program, second)?;
     jump_if_zero(code, frame.temp(h), 1, len)?;
@@ -191,7 +193,8 @@ pub fn emit_operation(
     requires temp { h + 1 ≤ frame.now.temps }
     requires frame { IsLaid program.now frame.now }
     ensures { OnOk result (code.new.items ≡ code.old.items
-        ++ Instr.Bin (operation_of op) (temp (slots_in program.now frame.now) h) (temp (slots_in program.now frame.now) h) (temp (slots_in program.now frame.now) (h + 1)) ∷ []) }
+        ++ Instr.Bin (operation_of op) (temp (slots_in program.now frame.now) h) (temp (slots_in program.now frame.now) h)
+        (temp (slots_in program.now frame.now) (h + 1)) ∷ []) }
 {
     emit_binary(code, program, frame, op, 1, h)
 }
@@ -208,7 +211,8 @@ pub fn emit_expr(
 ) -> Result<(), NoMemory>
     requires fits { Fits (program_of program.now) (slots_in program.now frame.now) frame.now.sites h (ex_of e.now) }
     requires frame { IsLaid program.now frame.now }
-    ensures { OnOk result (code.new.items ≡ code.old.items ++ ex_code (program_of program.now) (slots_in program.now frame.now) (ex_of e.now) h (length code.old.items)) }
+    ensures { OnOk result (code.new.items ≡ code.old.items
+        ++ ex_code (program_of program.now) (slots_in program.now frame.now) (ex_of e.now) h (length code.old.items)) }
 {
     match e {
         Expr::Constant(c) => {
@@ -280,7 +284,8 @@ pub fn emit_place(
 ) -> Result<(), NoMemory>
     requires fits { OperandsFit (program_of program.now) (slots_in program.now frame.now) frame.now.sites h (place_of place.now) }
     requires frame { IsLaid program.now frame.now }
-    ensures { OnOk result (code.new.items ≡ code.old.items ++ place_code (program_of program.now) (slots_in program.now frame.now) (place_of place.now) h (length code.old.items)) }
+    ensures { OnOk result (code.new.items ≡ code.old.items
+        ++ place_code (program_of program.now) (slots_in program.now frame.now) (place_of place.now) h (length code.old.items)) }
 {
     match place {
         Place::Local(_, steps) => emit_steps(code, program, frame, steps, h)?,
@@ -298,9 +303,12 @@ fn emit_steps(
     steps: &[Step],
     h: u16,
 ) -> Result<(), NoMemory>
-    requires fits { StepsFitIn (program_of program.now) (slots_in program.now frame.now) frame.now.sites h (these_steps steps.now) }
+    requires fits { StepsFitIn (program_of program.now) (slots_in program.now frame.now) frame.now.sites h
+        (these_steps steps.now) }
     requires frame { IsLaid program.now frame.now }
-    ensures { OnOk result (code.new.items ≡ code.old.items ++ steps_code (program_of program.now) (slots_in program.now frame.now) (these_steps steps.now) h (length code.old.items)) }
+    ensures { OnOk result (code.new.items ≡ code.old.items
+        ++ steps_code (program_of program.now) (slots_in program.now frame.now) (these_steps steps.now) h
+        (length code.old.items)) }
 {
     let mut next = h;
     for step in steps {
@@ -325,10 +333,12 @@ fn emit_ordered(
     es: &[Element],
     h: u16,
 ) -> Result<(), NoMemory>
-    requires fits { ElementsFitIn (program_of program.now) (slots_in program.now frame.now) frame.now.sites h (type_named (program_of program.now) id.0) true (elements_of es.now) }
+    requires fits { ElementsFitIn (program_of program.now) (slots_in program.now frame.now) frame.now.sites h
+        (type_named (program_of program.now) id.0) true (elements_of es.now) }
     requires frame { IsLaid program.now frame.now }
     ensures { OnOk result (code.new.items ≡ code.old.items
-        ++ elements_code (program_of program.now) (slots_in program.now frame.now) (type_named (program_of program.now) id.0) true (elements_of es.now) h (length code.old.items)) }
+        ++ elements_code (program_of program.now) (slots_in program.now frame.now)
+        (type_named (program_of program.now) id.0) true (elements_of es.now) h (length code.old.items)) }
 {
     for (i, element) in es.iter().enumerate() {
         match element {
@@ -353,10 +363,12 @@ fn emit_moved(
     h: u16,
 ) -> Result<(), NoMemory>
     requires room { h + width (type_named (program_of program.now) id.0) ≤ frame.now.temps }
-    requires fits { ElementsFitIn (program_of program.now) (slots_in program.now frame.now) frame.now.sites h (type_named (program_of program.now) id.0) false (elements_of es.now) }
+    requires fits { ElementsFitIn (program_of program.now) (slots_in program.now frame.now) frame.now.sites h
+        (type_named (program_of program.now) id.0) false (elements_of es.now) }
     requires frame { IsLaid program.now frame.now }
     ensures { OnOk result (code.new.items ≡ code.old.items
-        ++ elements_code (program_of program.now) (slots_in program.now frame.now) (type_named (program_of program.now) id.0) false (elements_of es.now) h (length code.old.items)) }
+        ++ elements_code (program_of program.now) (slots_in program.now frame.now)
+        (type_named (program_of program.now) id.0) false (elements_of es.now) h (length code.old.items)) }
 {
     let behind = h + program.types.width(id) as u16;
     for element in es {
@@ -380,9 +392,12 @@ pub fn emit_values(
     values: &Values,
     h: u16,
 ) -> Result<(), NoMemory>
-    requires fits { ExsFitIn (program_of program.now) (slots_in program.now frame.now) frame.now.sites h (exs_of_values values.now) }
+    requires fits { ExsFitIn (program_of program.now) (slots_in program.now frame.now) frame.now.sites h
+        (exs_of_values values.now) }
     requires frame { IsLaid program.now frame.now }
-    ensures { OnOk result (code.new.items ≡ code.old.items ++ exs_code (program_of program.now) (slots_in program.now frame.now) (exs_of_values values.now) h (length code.old.items)) }
+    ensures { OnOk result (code.new.items ≡ code.old.items
+        ++ exs_code (program_of program.now) (slots_in program.now frame.now) (exs_of_values values.now) h
+        (length code.old.items)) }
 {
     match values {
         Values::Each(es) => emit_row(code, program, frame, es, h)?,
@@ -410,7 +425,8 @@ fn emit_row(
 ) -> Result<(), NoMemory>
     requires fits { ExsFitIn (program_of program.now) (slots_in program.now frame.now) frame.now.sites h (exs_of es.now) }
     requires frame { IsLaid program.now frame.now }
-    ensures { OnOk result (code.new.items ≡ code.old.items ++ exs_code (program_of program.now) (slots_in program.now frame.now) (exs_of es.now) h (length code.old.items)) }
+    ensures { OnOk result (code.new.items ≡ code.old.items
+        ++ exs_code (program_of program.now) (slots_in program.now frame.now) (exs_of es.now) h (length code.old.items)) }
 {
     let mut next = h;
     for e in es {

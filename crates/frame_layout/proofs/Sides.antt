@@ -5,7 +5,7 @@ use Rattle.std.proofs.lemmas.List.{map-append}
 use Rattle.typed_syntax.specs.Syntax.{Steps, here, inner, at_index, Pl, local, global, Left, blank, new, to, Program}
 use Rattle.typed.specs.declared.stmt.Left.{Left as LeftData}
 use Rattle.typed.specs.View.{left_of}
-use Rattle.typed_syntax.specs.Frames.{steps_reach, place_reach, lefts_reach, lefts_need, place_need}
+use Rattle.frames.specs.Frames.{steps_reach, place_reach, lefts_reach, lefts_need, place_need}
 
 pub steps_others : (p : Program) (steps : Steps) (others : ℕ) → steps_reach p steps others ≡ max (steps_reach p steps 0) others
 steps_others p here others = omega arith

@@ -3,7 +3,7 @@
 ghost use Rattle.std.specs.Prelude.{◌≡◌, ◌+◌, [], ◌∷◌, max, map, IfOk};
 ghost use Rattle.typed_syntax.specs.Syntax.{arguments_of as arguments, results_of as results};
 ghost use Rattle.typed.specs.View.{ex_of, exs_of, exs_of_values, place_of, steps_of, elements_of, left_of, piece_of, test_of, st_of, sts_of, program_of};
-ghost use Rattle.typed_syntax.specs.Frames.{reach, reach_all, place_reach as reach_place, steps_reach as reach_steps, elements_reach as reach_elements, lefts_reach as reach_lefts, piece_reach as reach_in, reach_pieces, test_reach, st_reach, sts_reach};
+ghost use Rattle.frames.specs.Frames.{reach, reach_all, place_reach as reach_place, steps_reach as reach_steps, elements_reach as reach_elements, lefts_reach as reach_lefts, piece_reach as reach_in, reach_pieces, test_reach, st_reach, sts_reach};
 
 use crate::words::{arguments_of, results_of};
 use base::{FuncId, NoMemory};
@@ -174,7 +174,8 @@ fn lefts_reach(program: &Program, lefts: &[Left]) -> Result<u64, NoMemory>
 /// The most words that a call inside of an assignment wants.
 #[tactic(auto, using(crate::proofs::Sides::lefts_others))]
 fn assign_reach(program: &Program, lefts: &[Left], values: &Values) -> Result<u64, NoMemory>
-    ensures { IfOk result (λ n. n ≡ reach_lefts (program_of program.now) (map left_of lefts.now) (reach_all (program_of program.now) (exs_of_values values.now))) }
+    ensures { IfOk result (λ n. n ≡ reach_lefts (program_of program.now) (map left_of lefts.now)
+        (reach_all (program_of program.now) (exs_of_values values.now))) }
 {
     let places = lefts_reach(program, lefts)?;
     let words = values_reach(program, values)?;
@@ -184,7 +185,8 @@ fn assign_reach(program: &Program, lefts: &[Left], values: &Values) -> Result<u6
 /// The most words that a call inside of an assignment with an operator wants.
 #[tactic(auto, using(crate::proofs::Sides::place_others))]
 fn update_reach(program: &Program, place: &Place, e: &Expr) -> Result<u64, NoMemory>
-    ensures { IfOk result (λ n. n ≡ reach_place (program_of program.now) (place_of place.now) (reach (program_of program.now) (ex_of e.now))) }
+    ensures { IfOk result (λ n. n ≡ reach_place (program_of program.now) (place_of place.now)
+        (reach (program_of program.now) (ex_of e.now))) }
 {
     let indices = place_reach(program, place)?;
     let operand = expr_reach(program, e)?;
@@ -208,7 +210,8 @@ fn range_reach(
     value: &Left,
     body: u64,
 ) -> Result<u64, NoMemory>
-    ensures { IfOk result (λ n. n ≡ max (reach (program_of program.now) (ex_of e.now)) (reach_lefts (program_of program.now) (left_of key.now ∷ left_of value.now ∷ []) body)) }
+    ensures { IfOk result (λ n. n ≡ max (reach (program_of program.now) (ex_of e.now))
+        (reach_lefts (program_of program.now) (left_of key.now ∷ left_of value.now ∷ []) body)) }
 {
     let operand = expr_reach(program, e)?;
     let round = round_reach(program, key, value, body)?;

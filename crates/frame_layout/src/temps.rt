@@ -1,16 +1,19 @@
 //! The temps that values want. A number of temps that passes 64 bits counts as want of memory.
 
-ghost use Rattle.std.specs.Prelude.{◌≡◌, ◌≤◌, ◌+◌, [], ◌∷◌, max, map, if◌then◌else◌, IfOk};
+ghost use Rattle.std.specs.Prelude.{◌≡◌, ◌≤◌, ◌+◌, [], ◌∷◌, drop, max, map, if◌then◌else◌, IfOk};
 ghost use Rattle.typed_syntax.specs.Types.{width, part_offset};
-ghost use Rattle.typed_syntax.specs.Syntax.{all_wide, ascend, type_named};
-ghost use Rattle.typed.specs.View.{ex_of, exs_of, exs_of_values, place_of, steps_of, elements_of, piece_of, test_of, site_numbers, left_of, st_of, sts_of, program_of};
-ghost use Rattle.typed_syntax.specs.Frames.{far, steps_far, left_far, lefts_far, behind_values, need, need_all, place_need, steps_need, elements_need, lefts_need, piece_need, need_pieces, test_need, key_need, pair_need, element_words as words_of_elements, st_need, sts_need, widest as widest_of};
+ghost use Rattle.typed_syntax.specs.Syntax.{all_wide, ascend, type_in, type_named};
+ghost use Rattle.typed.specs.View.{ex_of, exs_of, exs_of_values, place_of, steps_of, elements_of, piece_of, test_of, site_numbers, left_of, st_of, sts_of, func_of, program_of, site_in};
+ghost use Rattle.typed.specs.Trees.{trees};
+ghost use Rattle.placement.specs.Told.{placement_of};
+ghost use Rattle.frames.specs.Frames.{far, steps_far, left_far, lefts_far, behind_values, need, need_all, place_need, steps_need, elements_need, lefts_need, piece_need, need_pieces, test_need, key_need, pair_need, element_words as words_of_elements, st_need, sts_need, entry_need, temps_of, widest as widest_of};
 
 use crate::words::{
     element_words, expr_words, place_words, results_of, type_words, values_words, widest,
 };
 use base::{NoMemory, SiteId, TypeId};
-use typed::{Element, Expr, Left, Piece, Place, Program, Step, Stmt, Values};
+use placement::Placement;
+use typed::{Element, Expr, Func, Left, Piece, Place, Program, Step, Stmt, Values};
 
 /// What a `range` over a number keeps, the number and the index; what one over an array keeps, the index; and the most that each
 /// counts with above them.
@@ -71,7 +74,8 @@ fn is_ascending(elements: &[Element]) -> bool
 /// The words in front of those in which an element of a literal is worked out: its place in the literal, where the elements come in order, and
 /// else after the literal.
 fn words_in_front(program: &Program, type_id: TypeId, in_order: bool, number: u32) -> u64
-    ensures { result ≡ (if in_order then part_offset (type_named (program_of program.now) type_id.0) number else width (type_named (program_of program.now) type_id.0)) }
+    ensures { result ≡ (if in_order then part_offset (type_named (program_of program.now) type_id.0) number else width
+        (type_named (program_of program.now) type_id.0)) }
 {
     if in_order {
         program.types.part_offset(type_id, number)
@@ -162,7 +166,8 @@ fn steps_temps(program: &Program, steps: &[Step], behind: u64) -> Result<u64, No
 /// The temps of the elements of a literal of a type.
 #[cycle(values)]
 fn elements_temps(program: &Program, type_id: TypeId, elements: &[Element]) -> Result<u64, NoMemory>
-    ensures { IfOk result (λ n. n ≡ elements_need (program_of program.now) (type_named (program_of program.now) type_id.0) (ascend (elements_of elements.now)) (elements_of elements.now)) }
+    ensures { IfOk result (λ n. n ≡ elements_need (program_of program.now) (type_named (program_of program.now) type_id.0)
+        (ascend (elements_of elements.now)) (elements_of elements.now)) }
 {
     let in_order = is_ascending(elements);
     let mut temps: u64 = 0;
@@ -249,7 +254,8 @@ fn test_temps(program: &Program, test: &Option<Expr>) -> Result<u64, NoMemory>
 /// The temps of a loop's header: those of its condition, and those through which a new round's variables are moved, one
 /// after the other.
 fn header_temps(program: &Program, test: &Option<Expr>, sites: &[SiteId]) -> Result<u64, NoMemory>
-    ensures { IfOk result (λ n. n ≡ max (test_need (program_of program.now) (test_of test.now)) (widest_of (program_of program.now) (site_numbers sites.now))) }
+    ensures { IfOk result (λ n. n ≡ max (test_need (program_of program.now) (test_of test.now))
+        (widest_of (program_of program.now) (site_numbers sites.now))) }
 {
     let temps = test_temps(program, test)?;
     Ok(temps.max(widest(program, sites)))
@@ -326,7 +332,8 @@ fn words_with_address(values: u64, address: u64) -> Result<u64, NoMemory>
 /// and this after them.
 fn assign_temps(program: &Program, lefts: &[Left], values: &Values) -> Result<u64, NoMemory>
     ensures { IfOk result (λ n. n ≡ lefts_need (program_of program.now) (map left_of lefts.now)
-        (max (need_all (program_of program.now) (exs_of_values values.now)) (behind_values (all_wide (program_of program.now) (exs_of_values values.now)) (lefts_far (map left_of lefts.now))))) }
+        (max (need_all (program_of program.now) (exs_of_values values.now))
+        (behind_values (all_wide (program_of program.now) (exs_of_values values.now)) (lefts_far (map left_of lefts.now))))) }
 {
     let temps = values_temps(program, values)?;
     let words = values_words(program, values)?;
@@ -337,7 +344,8 @@ fn assign_temps(program: &Program, lefts: &[Left], values: &Values) -> Result<u6
 /// The temps of an assignment with an operator: after the place's operands an address, if there is one, the value, and those of the
 /// operand.
 fn update_temps(program: &Program, place: &Place, e: &Expr) -> Result<u64, NoMemory>
-    ensures { IfOk result (λ n. n ≡ place_need (program_of program.now) (place_of place.now) (far (place_of place.now) + 1 + need (program_of program.now) (ex_of e.now))) }
+    ensures { IfOk result (λ n. n ≡ place_need (program_of program.now) (place_of place.now)
+        (far (place_of place.now) + 1 + need (program_of program.now) (ex_of e.now))) }
 {
     let operand = expr_temps(program, e)?;
     let kept = address_temps(place) + 1;
@@ -364,7 +372,8 @@ fn range_temps(operand: u64, kept: u64, round: u64, body: u64) -> Result<u64, No
 
 /// The temps of a `range` over a number whose body wants `body`.
 fn count_temps(program: &Program, e: &Expr, key: &Left, body: u64) -> Result<u64, NoMemory>
-    ensures { IfOk result (λ n. n ≡ max (need (program_of program.now) (ex_of e.now)) (max (2 + 2) (max (2 + key_need (program_of program.now) (left_of key.now)) (2 + body)))) }
+    ensures { IfOk result (λ n. n ≡ max (need (program_of program.now) (ex_of e.now))
+        (max (2 + 2) (max (2 + key_need (program_of program.now) (left_of key.now)) (2 + body)))) }
 {
     let operand = expr_temps(program, e)?;
     let round = key_temps(program, key)?;
@@ -373,7 +382,8 @@ fn count_temps(program: &Program, e: &Expr, key: &Left, body: u64) -> Result<u64
 
 /// The temps of a `range` over the indices of an array whose body wants `body`.
 fn indices_temps(program: &Program, key: &Left, body: u64) -> Result<u64, NoMemory>
-    ensures { IfOk result (λ n. n ≡ max 0 (max (1 + 2) (max (1 + key_need (program_of program.now) (left_of key.now)) (1 + body)))) }
+    ensures { IfOk result (λ n. n ≡ max 0 (max (1 + 2)
+        (max (1 + key_need (program_of program.now) (left_of key.now)) (1 + body)))) }
 {
     let round = key_temps(program, key)?;
     range_temps(0, KEPT_OF_ARRAY, round, body)
@@ -400,7 +410,8 @@ fn copy_temps(
     body: u64,
 ) -> Result<u64, NoMemory>
     ensures { IfOk result (λ n. n ≡ max (need (program_of program.now) (ex_of e.now)) (max (1 + 2) (max
-        (1 + pair_need (program_of program.now) (left_of key.now ∷ left_of value.now ∷ []) (1 + words_of_elements (program_of program.now) site.0)) (1 + body)))) }
+        (1 + pair_need (program_of program.now) (left_of key.now ∷ left_of value.now ∷ [])
+        (1 + words_of_elements (program_of program.now) site.0)) (1 + body)))) }
 {
     let operand = expr_temps(program, e)?;
     let words = above(element_words(program, site))?;
@@ -410,7 +421,8 @@ fn copy_temps(
 
 /// The temps of a return from a function whose results have these names: they are moved through temps, one after the other.
 fn return_temps(program: &Program, named: &[SiteId], values: &Values) -> Result<u64, NoMemory>
-    ensures { IfOk result (λ n. n ≡ max (need_all (program_of program.now) (exs_of_values values.now)) (widest_of (program_of program.now) (site_numbers named.now))) }
+    ensures { IfOk result (λ n. n ≡ max (need_all (program_of program.now) (exs_of_values values.now))
+        (widest_of (program_of program.now) (site_numbers named.now))) }
 {
     let temps = values_temps(program, values)?;
     Ok(temps.max(widest(program, named)))
@@ -470,4 +482,68 @@ pub fn body_temps(program: &Program, named: &[SiteId], body: &[Stmt]) -> Result<
         temps = temps.max(stmt_temps(program, named, s)?);
     }
     Ok(temps)
+}
+
+/// The temps that a parameter of a type goes through at the entry of a function: those of its words, where its variables live on
+/// the heap.
+fn param_temps(
+    program: &Program,
+    placement: &Placement,
+    param: Option<SiteId>,
+    type_id: TypeId,
+) -> u64
+    ensures { result ≡ entry_need (placement_of placement.now) (site_in param ∷ []) (type_in (trees program.now.types) type_id.0 ∷ []) }
+{
+    match param {
+        None => 0,
+        Some(site) => {
+            if placement.is_on_heap(site) {
+                type_words(program, type_id)
+            } else {
+                0
+            }
+        }
+    }
+}
+
+/// The temps of a parameter whose type is one of some types by its number; none where there are fewer.
+#[tactic(auto, using(crate::proofs::Entries::type_there, crate::proofs::Entries::no_type))]
+fn nth_param_temps(
+    program: &Program,
+    placement: &Placement,
+    param: Option<SiteId>,
+    types: &[TypeId],
+    i: usize,
+) -> u64
+    ensures { result ≡ entry_need (placement_of placement.now) (site_in param ∷ []) (map (λ t. type_in (trees program.now.types) t.0) (drop i types.now)) }
+{
+    match types.get(i) {
+        Some(type_id) => param_temps(program, placement, param, *type_id),
+        None => 0,
+    }
+}
+
+/// The most temps that one of some parameters goes through.
+fn entry_temps(
+    program: &Program,
+    placement: &Placement,
+    params: &[Option<SiteId>],
+    types: &[TypeId],
+) -> u64
+    ensures { result ≡ entry_need (placement_of placement.now) (map site_in params.now) (map (λ t. type_in (trees program.now.types) t.0) types.now) }
+{
+    let mut most: u64 = 0;
+    for (i, param) in params.iter().enumerate() {
+        most = most.max(nth_param_temps(program, placement, *param, types, i));
+    }
+    most
+}
+
+/// The temps of a function: the most that its entry or one of its statements wants.
+pub fn func_temps(program: &Program, placement: &Placement, func: &Func) -> Result<u64, NoMemory>
+    ensures { IfOk result (λ n. n ≡ temps_of (program_of program.now) (placement_of placement.now) (func_of (trees program.now.types) func.now)) }
+{
+    let entry = entry_temps(program, placement, &func.params, &func.param_types);
+    let body = body_temps(program, &func.named, &func.body)?;
+    Ok(entry.max(body))
 }

@@ -1,15 +1,17 @@
 //! The words of types, and of what is typed by them. A number that passes 64 bits counts as want of memory.
 
-ghost use Rattle.std.specs.Prelude.{◌≡◌, ◌-◌, ◌≤◌, ◌<◌, ◌*◌, map, IfOk};
+ghost use Rattle.std.specs.Prelude.{◌≡◌, ◌+◌, ◌-◌, ◌≤◌, ◌<◌, ◌*◌, map, IfOk};
 ghost use Rattle.typed_syntax.specs.Types.{width, part_type};
 ghost use Rattle.typed_syntax.specs.Paths.{type_at};
-ghost use Rattle.typed_syntax.specs.Frames.{element_words as words_of_elements, widest as widest_of, words_between};
+ghost use Rattle.frames.specs.Frames.{element_words as words_of_elements, cell_words, cells_between, stack_words as words_in_frame, widest as widest_of, words_between};
 ghost use Rattle.typed_syntax.specs.Syntax.{all_width, all_wide, arguments_of as arguments, global_site, path_of, place_type, place_width, results_of as results, site_type, site_width, type_in, type_named, wide};
 ghost use Rattle.typed.specs.View.{ex_of, exs_of, exs_of_values, place_of, program_of, site_numbers, steps_of};
 ghost use Rattle.typed.specs.Trees.{trees};
+ghost use Rattle.placement.specs.Told.{placement_of};
 ghost use Rattle.frame_layout.specs.Layout.{type_or_ints, starts as starts_of};
 
 use base::{FuncId, NoMemory, SiteId, TypeId};
+use placement::Placement;
 use std::alloc::Global;
 use typed::{Expr, Place, Program, Step, Values};
 
@@ -109,7 +111,8 @@ pub fn site_of_global(program: &Program, number: u32) -> SiteId
 
 /// The type of the part that steps lead to. All elements of an array are of the type of the first.
 fn type_behind(program: &Program, type_id: TypeId, steps: &[Step]) -> TypeId
-    ensures { type_named (program_of program.now) result.0 ≡ type_at (type_named (program_of program.now) type_id.0) (path_of (steps_of steps.now)) }
+    ensures { type_named (program_of program.now) result.0
+        ≡ type_at (type_named (program_of program.now) type_id.0) (path_of (steps_of steps.now)) }
 {
     let mut part = type_id;
     for step in steps {
@@ -190,33 +193,67 @@ pub fn values_words(program: &Program, values: &Values) -> Result<u64, NoMemory>
     }
 }
 
-/// The words of `count` sites from `first` on.
-pub fn sites_words(program: &Program, first: u32, count: u32) -> u64
-    ensures { result ≡ words_between (program_of program.now).sites first count }
+/// The words of a site's variables in a frame, by its number in the program's table: none where they live on the heap.
+fn stack_words(program: &Program, placement: &Placement, number: usize) -> u64
+    ensures is { result ≡ words_in_frame (placement_of placement.now) (program_of program.now).sites number }
+    ensures few { result < 4294967296 }
+{
+    if placement.at(number) {
+        0
+    } else {
+        words_at(program, number)
+    }
+}
+
+/// The words in a frame of `count` sites from `first` on.
+pub fn sites_words(program: &Program, placement: &Placement, first: u32, count: u32) -> u64
+    ensures { result ≡ words_between (placement_of placement.now) (program_of program.now).sites first count }
 {
     let mut words: u64 = 0;
     for i in 0..count {
         // No more than 2³² sites of less than 2³² words each.
-        words += words_at(program, first as usize + i as usize);
+        words += stack_words(program, placement, first as usize + i as usize);
     }
     words
 }
 
-/// The words before each of `count` sites from `first` on.
+/// The cells of a site, by its number: one where its variables live on the heap.
+fn cells_at(placement: &Placement, number: usize) -> u64
+    ensures is { result ≡ cell_words (placement_of placement.now) number }
+    ensures few { result ≤ 1 }
+{
+    if placement.at(number) { 1 } else { 0 }
+}
+
+/// How many of `count` sites from `first` on have a cell.
+pub fn cells_of(placement: &Placement, first: u32, count: u32) -> u64
+    ensures { result ≡ cells_between (placement_of placement.now) first count }
+{
+    let mut cells: u64 = 0;
+    for i in 0..count {
+        cells += cells_at(placement, first as usize + i as usize);
+    }
+    cells
+}
+
+/// The words before each of `count` sites from `first` on; before the first stand the cells.
 pub fn site_starts(
     alloc: Global,
     program: &Program,
+    placement: &Placement,
     first: u32,
     count: u32,
 ) -> Result<Vec<u16>, NoMemory>
-    requires { words_between (program_of program.now).sites first count ≤ 65535 }
-    ensures { IfOk result (λ starts. starts.items ≡ starts_of (program_of program.now).sites first 0 count) }
+    requires { cells_between (placement_of placement.now) first count
+        + words_between (placement_of placement.now) (program_of program.now).sites first count ≤ 65535 }
+    ensures { IfOk result (λ starts. starts.items ≡ starts_of (placement_of placement.now)
+        (program_of program.now).sites first (cells_between (placement_of placement.now) first count) count) }
 {
     let mut starts = Vec::new(alloc);
-    let mut words: u16 = 0;
+    let mut words = cells_of(placement, first, count) as u16;
     for i in 0..count {
         starts.push(words)?;
-        words += words_at(program, first as usize + i as usize) as u16;
+        words += stack_words(program, placement, first as usize + i as usize) as u16;
     }
     Ok(starts)
 }

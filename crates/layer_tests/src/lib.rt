@@ -13,7 +13,7 @@ mod devices;
 #[cfg(test)]
 mod folding;
 #[cfg(test)]
-mod frames;
+mod frame_layouts;
 #[cfg(test)]
 mod graphs;
 #[cfg(test)]

@@ -4,6 +4,7 @@ use Rattle.std.specs.Prelude.{slice_get}
 use Rattle.isa.specs.Code.{Tables}
 use Rattle.isa.specs.declared.instr.Instr.{Instr}
 use Rattle.typed_syntax.specs.Syntax.{Func, Program}
+use Rattle.frames.specs.Placement.{Placement}
 use Rattle.program_code.specs.Code.{func_code, func_size, entry_of}
 
 -- these instructions stand at this place
@@ -23,12 +24,12 @@ has_back code pc (suc n) (i ∷ a) b e h =
     subst (λ n. HasAt code n b) f (has_back code (pc + 1) n a b (omega arith) h.1)
 
 -- the function of this number stands from a place on, and the places belong to it
-pub record Placed (p : Program) (code : Tables) (f : ℕ) (func : Func) : Type 0 where
+pub record Placed (p : Program) (l : Placement) (code : Tables) (f : ℕ) (func : Func) : Type 0 where
   pub start : ℕ
-  pub entry : slice_get code.funcs f ≡ Some (entry_of p func start)
-  pub stands : HasAt code.instrs start (func_code p func start)
+  pub entry : slice_get code.funcs f ≡ Some (entry_of p l func start)
+  pub stands : HasAt code.instrs start (func_code p l func start)
   pub owned : (i : ℕ) → i < func_size p func → slice_get code.owners (start + i) ≡ Some f
 
 -- all functions do
-pub record Compiled (p : Program) (code : Tables) : Type 0 where
-  pub placed : (f : ℕ) (func : Func) → slice_get p.funcs f ≡ Some func → Placed p code f func
+pub record Compiled (p : Program) (l : Placement) (code : Tables) : Type 0 where
+  pub placed : (f : ℕ) (func : Func) → slice_get p.funcs f ≡ Some func → Placed p l code f func

@@ -3,7 +3,7 @@ use Rattle.std.proofs.Common.{◌≡◌, ℕ, zero, suc, ◌+◌, ◌≤◌, Lis
 use Rattle.typed_syntax.specs.Types.{TypeTree}
 use Rattle.typed_syntax.specs.Syntax.{Pl, Steps, local, global, here, inner, at_index, Left, Program, blank, new, to}
 use Rattle.typed_syntax.specs.Form.{LeftsFit}
-use Rattle.typed_syntax.specs.Frames.{far, left_far, behind_values, key_need, place_need, steps_need, lefts_need, place_reach, steps_reach, lefts_reach}
+use Rattle.frames.specs.Frames.{far, left_far, behind_values, key_need, place_need, steps_need, lefts_need, place_reach, steps_reach, lefts_reach}
 use Rattle.program_code.specs.Code.{steps_above, place_above, lefts_above}
 
 pub lefts_length : (p : Program) (scope : List ℕ) (m e : ℕ) (ts : List TypeTree) (ls : List Left) → LeftsFit p scope m e ts ls → length ts ≡ length ls

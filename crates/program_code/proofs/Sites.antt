@@ -1,27 +1,66 @@
--- Where sites stand among each other.
-use Rattle.std.proofs.Common.{◌≡◌, ℕ, zero, suc, ◌+◌, ◌-◌, ◌<◌, ◌≤◌, List, get_or, ap, arith}
+-- Where sites stand among each other, and which placement has rules.
+use Rattle.std.proofs.Common.{◌≡◌, ◌≢◌, inl, inr, ℕ, zero, suc, ◌+◌, ◌-◌, ◌<◌, ◌≤◌, Bool, true, false, List, [], ◌∷◌, Some, get_or, slice_get, refl, sym, ap, ◌∙◌, arith}
+use Rattle.std.specs.Prelude.{◌==◌, ◌||◌, if◌then◌else◌}
+use Rattle.std.proofs.lemmas.Bool.{eq-eqb}
+use Rattle.std.proofs.lemmas.Bool.Decides.{eqb_tells}
 use Rattle.typed_syntax.specs.Types.{TypeTree, ints, width}
+use Rattle.typed_syntax.specs.Value.{Value}
 use Rattle.typed_syntax.specs.Syntax.{Func, Program, site_width}
-use Rattle.typed_syntax.specs.Frames.{words_between}
+use Rattle.typed_syntax.specs.Form.{IsInForm}
+use Rattle.frames.specs.Placement.{Placement, IsPlaced, among, package_alone}
+use Rattle.frames.specs.Frames.{stack_words, words_between}
+
+-- a site whose variables live in the frame has their words there
+pub stack_is : (pl : Placement) (sites : List TypeTree) (site : ℕ) → pl.on_heap site ≡ false → stack_words pl sites site ≡ width (get_or sites site ints)
+stack_is pl sites site stays = ap (λ b. if b then 0 else width (get_or sites site ints)) stays
 
 -- the words of a site stand before those of a later one
-between_next : (sites : List TypeTree) (from k l : ℕ) → k < l → words_between sites from k + width (get_or sites (from + k) ints) ≤ words_between sites from l
-between_next sites from k zero lt = absurd (omega arith)
-between_next sites from zero (suc l) lt = let e : from + 0 ≡ from = omega arith in let q = ap (λ n. width (get_or sites n ints)) e in omega arith
-between_next sites from (suc k) (suc l) lt =
+pub between_next : (pl : Placement) (sites : List TypeTree) (from k n : ℕ) → k < n → words_between pl sites from k + stack_words pl sites (from + k) ≤ words_between pl sites from n
+between_next pl sites from k zero lt = absurd (omega arith)
+between_next pl sites from zero (suc n) lt = let e : from + 0 ≡ from = omega arith in let q = ap (λ m. stack_words pl sites m) e in omega arith
+between_next pl sites from (suc k) (suc n) lt =
     let e : suc from + k ≡ from + suc k = omega arith in
-    let q = ap (λ n. width (get_or sites n ints)) e in
-    let r = between_next sites (suc from) k l (omega arith) in omega arith
+    let q = ap (λ m. stack_words pl sites m) e in
+    let r = between_next pl sites (suc from) k n (omega arith) in omega arith
 
-pub site_before : (p : Program) (first u v : ℕ) → first ≤ u → u < v → words_between p.sites first (u - first) + site_width p u ≤ words_between p.sites first (v - first)
-site_before p first u v from lt =
-    let e : first + (u - first) ≡ u = omega arith in
-    let q = ap (λ n. site_width p n) e in
-    let r = between_next p.sites first (u - first) (v - first) (omega arith) in omega arith
+between_sites : (pl : Placement) (sites : List TypeTree) (first site n : ℕ) → first ≤ site → site - first < n → pl.on_heap site ≡ false → words_between pl sites first (site - first) + width (get_or sites site ints) ≤ words_between pl sites first n
+between_sites pl sites first site n from lt stays =
+    let e : first + (site - first) ≡ site = omega arith in
+    let q = ap (λ m. stack_words pl sites m) e ∙ stack_is pl sites site stays in
+    let r = between_next pl sites first (site - first) n lt in omega arith
+
+pub site_before : (p : Program) (pl : Placement) (first u v : ℕ) → pl.on_heap u ≡ false → first ≤ u → u < v → words_between pl p.sites first (u - first) + site_width p u ≤ words_between pl p.sites first (v - first)
+site_before p pl first u v stays from lt = between_sites pl p.sites first u (v - first) from (omega arith) stays
 
 -- and within those of the function
-pub site_within : (p : Program) (f : Func) (v : ℕ) → f.first ≤ v → v < f.first + f.count → words_between p.sites f.first (v - f.first) + site_width p v ≤ words_between p.sites f.first f.count
-site_within p f v from to =
-    let e : f.first + (v - f.first) ≡ v = omega arith in
-    let q = ap (λ n. site_width p n) e in
-    let r = between_next p.sites f.first (v - f.first) f.count (omega arith) in omega arith
+pub site_within : (p : Program) (pl : Placement) (f : Func) (v : ℕ) → pl.on_heap v ≡ false → f.first ≤ v → v < f.first + f.count → words_between pl p.sites f.first (v - f.first) + site_width p v ≤ words_between pl p.sites f.first f.count
+site_within p pl f v stays from to = between_sites pl p.sites f.first v f.count from (omega arith) stays
+
+-- ---- the placement of the package's variables alone
+
+different : (a b : ℕ) → a ≢ b → (a == b) ≡ false
+different a b apart = elim (eqb_tells a b) [ inl p ↦ absurd (apart p.1) | inr p ↦ p.0 ]
+
+or_true : (b : Bool) → (b || true) ≡ true
+or_true true = refl
+or_true false = refl
+
+same_some : (g h : ℕ × Value) → Some g ≡ Some h → g ≡ h
+same_some g h e = cc
+
+-- no package variable has the site, or one has
+none_among : (site : ℕ) (gs : List (ℕ × Value)) → ((i : ℕ) (g : ℕ × Value) → slice_get gs i ≡ Some g → g.0 ≢ site) → among site gs ≡ false
+none_among site [] apart = refl
+none_among site (g ∷ gs) apart = ap (λ b. b || among site gs) (different g.0 site (apart 0 g refl)) ∙ none_among site gs (λ i h e. apart (suc i) h e)
+
+one_among : (gs : List (ℕ × Value)) (i : ℕ) (g : ℕ × Value) → slice_get gs i ≡ Some g → among g.0 gs ≡ true
+one_among [] i g e = absurd cc
+one_among (h ∷ gs) zero g e = ap (λ b. b || among g.0 gs) (eq-eqb h.0 g.0 (ap (λ (q : ℕ × Value). q.0) (same_some h g e)))
+one_among (h ∷ gs) (suc i) g e = ap (λ b. (h.0 == g.0) || b) (one_among gs i g e) ∙ or_true (h.0 == g.0)
+
+pub package_placed : (p : Program) → IsInForm p → IsPlaced p (package_alone p)
+package_placed p form = record {
+  stacked = λ f func is site from to. none_among site p.globals
+      (λ i g e same. elim ((form.globals i g e).apart f func is) [ inl l ↦ absurd (omega (arith, l, same, from)) | inr l ↦ absurd (omega (arith, l, same, to)) ]);
+  globals = λ i g e. one_among p.globals i g e;
+}

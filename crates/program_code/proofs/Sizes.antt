@@ -4,8 +4,9 @@ use Rattle.std.specs.Prelude.{Option}
 use Rattle.isa.specs.declared.instr.Instr.{Instr}
 use Rattle.isa.specs.declared.instr.Instr.TheVariants.{Const, Bin, Call, Jump, JumpZero, Return, Exit}
 use Rattle.isa.specs.declared.instr.BinOp.TheVariants as Word
-use Rattle.typed_syntax.specs.Frames.{far}
+use Rattle.frames.specs.Frames.{far}
 use Rattle.typed_syntax.specs.Syntax.{Ex, Exs, Pl, Steps, here as itself, inner, at_index, Left, Piece, St, Sts, Func, Program, constant, read, unary, binary, logical_and, logical_or, call, part_of, literal, Elements, no_elements, element, local, global, none, more, results, read_int, blank, new, to, text, shown, over_int, over_length, over_copy, declare, assign, update, bump, discard, block, if_stmt, for_stmt, range, break_stmt, continue_stmt, return_stmt, print, panic, exit, done, next, argument_words, arguments_of, results_of, type_named, wide, all_wide, each_width, value_widths, ascend, words_through, gap_behind}
+use Rattle.frames.specs.Placement.{Placement}
 use Rattle.typed_syntax.specs.Types.{TypeTree, width, part_type, part_offset}
 use Rattle.program_code.specs.Code.{element_code, index_round_code, index_round_size, element_round_code, element_round_size, array_code, Slots, site_slot, site_type, global_type, site_words, place_above, above_address, lefts_above, index_code, index_count, steps_address, steps_address_size, address_size, place_code, place_size, place_end, steps_code, steps_size, steps_end, ready_code, lefts_sized, lefts_end, first_width, other_widths, temp, operation, binary_code, unary_code, address_code, fetch_code, land_code, read_code, write_code, move_code, move_size, result_code, gap_code, gap_size, moves, elements_code, elements_size, call_code, call_size, ex_code, exs_code, pieces_code, test_code, test_size, size, exs_size, pieces_size, raised_code, show_more, show_plain, show_code, more_size, shown_size, lefts_code, lefts_size, named_write_code, named_read_code, named_read_size, leave_code, leave_size, values_code, values_size, params_code, params_size, zeros_code, renew_code, renew_size, st_code, sts_code, st_size, sts_size, slots_of, entry_code, entry_size, func_code, func_size}
 
@@ -330,13 +331,13 @@ module _ (fs : Program) where
           let behind = pc + st_size fs arguments named x in
           omega (arith, length-append (st_code fs arguments named s x h out again pc) (sts_code fs arguments named s xs h out again behind), length_st s x h out again pc, length_sts s xs h out again behind)
 
-  pub length_entry : (f : Func) → length (entry_code fs f) ≡ entry_size fs f
-  length_entry f =
-      let s = slots_of fs f in
+  pub length_entry : (pl : Placement) (f : Func) → length (entry_code fs pl f) ≡ entry_size fs f
+  length_entry pl f =
+      let s = slots_of fs pl f in
       omega (arith, length-append (params_code s (each_width f.param_types) f.params 0) (zeros_code s f.named), length_params s (each_width f.param_types) f.params 0, length_zeros s f.named)
 
-  pub length_func : (f : Func) (pc : ℕ) → length (func_code fs f pc) ≡ func_size fs f
-  length_func f pc =
-      let s = slots_of fs f in let m = argument_words f in
+  pub length_func : (pl : Placement) (f : Func) (pc : ℕ) → length (func_code fs pl f pc) ≡ func_size fs f
+  length_func pl f pc =
+      let s = slots_of fs pl f in let m = argument_words f in
       let body = sts_code fs m f.named s f.body 0 0 0 (pc + entry_size fs f) in let leave = leave_code s m f.named in
-      omega (arith, length-append (entry_code fs f) (body ++ leave), length-append body leave, length_entry f, length_sts m f.named s f.body 0 0 0 (pc + entry_size fs f), length_leave s m f.named)
+      omega (arith, length-append (entry_code fs pl f) (body ++ leave), length-append body leave, length_entry pl f, length_sts m f.named s f.body 0 0 0 (pc + entry_size fs f), length_leave s m f.named)

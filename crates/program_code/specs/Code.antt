@@ -17,7 +17,8 @@ use Rattle.typed_syntax.specs.Types.{TypeTree, ints, bools, width, part_type, pa
 use Rattle.typed_syntax.specs.Value.{Value, int, bool, composite}
 use Rattle.typed_syntax.specs.Paths.{type_at, offset}
 use Rattle.typed_syntax.specs.Syntax.{Ex, Exs, Pl, Steps, here, inner, at_index, Left, Piece, St, Sts, Func, Program, constant, read, unary, binary, logical_and, logical_or, call, part_of, literal, Elements, no_elements, element, local, global, none, more, results, read_int, blank, new, to, text, shown, over_int, over_length, over_copy, declare, assign, update, bump, discard, block, if_stmt, for_stmt, range, break_stmt, continue_stmt, return_stmt, print, panic, exit, done, next, argument_words, result_words, arguments_of, results_of, type_named, path_of, wide, all_wide, each_width, value_widths, ascend, words_through, gap_behind}
-use Rattle.typed_syntax.specs.Frames.{steps_far, far, words_between, outgoing_of, temps_of, frame_of}
+use Rattle.frames.specs.Placement.{Placement}
+use Rattle.frames.specs.Frames.{steps_far, far, words_between, cells_between, outgoing_of, temps_of, frame_of}
 use Rattle.heap_bump.specs.Words.{first_address}
 
 abbrev pub operation : Operator → BinOp
@@ -66,20 +67,27 @@ word_of (int z) = cast_unsigned w64 z
 word_of (bool b) = bit_of b
 word_of (composite vs) = 0
 
--- The slots of a frame, from its lowest word: the outgoing area, the temps, the sites from this one on, each with the words of
--- its type; above them the link and the return place. The package variables, by their sites, stand in the heap.
+-- The slots of a frame, from its lowest word: the outgoing area, the temps, of `count` sites from this one on the cells of those whose
+-- variables live on the heap and then the others, each with the words of its type; above them the link and the return place. The
+-- package variables, by their sites, stand in the heap.
 pub record Slots : Type 0 where
   pub outgoing : ℕ
   pub temps : ℕ
   pub first : ℕ
+  pub count : ℕ
+  pub placement : Placement
   pub sites : List TypeTree
   pub globals : List ℕ
 
 abbrev pub temp : Slots → ℕ → ℕ
 temp s h = s.outgoing + h
 
+-- the cell of a site, and the first slot of one whose variables live in the frame
+abbrev pub cell_slot : Slots → ℕ → ℕ
+cell_slot s site = s.outgoing + s.temps + cells_between s.placement s.first (site - s.first)
+
 abbrev pub site_slot : Slots → ℕ → ℕ
-site_slot s site = s.outgoing + s.temps + words_between s.sites s.first (site - s.first)
+site_slot s site = s.outgoing + s.temps + cells_between s.placement s.first s.count + words_between s.placement s.sites s.first (site - s.first)
 
 abbrev pub site_type : Slots → ℕ → TypeTree
 site_type s site = get_or s.sites site ints
@@ -613,45 +621,55 @@ module _ (p : Program) where
       sts_code s done h out again pc = []
       sts_code s (next x xs) h out again pc = st_code s x h out again pc ++ sts_code s xs h out again (pc + st_size x)
 
+  abbrev pub entry_size : Func → ℕ
+  entry_size f = params_size f.params + length f.named
+
+  abbrev pub func_size : Func → ℕ
+  func_size f = entry_size f + (sts_size (argument_words f) f.named f.body + leave_size f.named)
+
+  -- the number of the function that each instruction belongs to, of functions one after the other
+  abbrev pub funcs_owners : List Func → (number : ℕ) → List ℕ
+  funcs_owners [] number = []
+  funcs_owners (f ∷ gs) number = replicate (func_size f) number ++ funcs_owners gs (number + 1)
+
+module _ (p : Program) (l : Placement) where
   abbrev pub slots_of : Func → Slots
-  slots_of f = record { outgoing = outgoing_of p f; temps = temps_of p f; first = f.first; sites = p.sites; globals = map (λ g. g.0) p.globals }
+  slots_of f = record {
+    outgoing = outgoing_of p f;
+    temps = temps_of p l f;
+    first = f.first;
+    count = f.count;
+    placement = l;
+    sites = p.sites;
+    globals = map (λ g. g.0) p.globals;
+  }
 
   -- what stands before a function's body
   abbrev pub entry_code : Func → List Instr
   entry_code f = params_code (slots_of f) (each_width f.param_types) f.params 0 ++ zeros_code (slots_of f) f.named
 
-  abbrev pub entry_size : Func → ℕ
-  entry_size f = params_size f.params + length f.named
-
   -- the instructions of a function at a place; nothing is around its body that a `break` leaves
   abbrev pub func_code : Func → ℕ → List Instr
   func_code f pc =
-      entry_code f ++ (sts_code (argument_words f) f.named (slots_of f) f.body 0 0 0 (pc + entry_size f) ++ leave_code (slots_of f) (argument_words f) f.named)
-
-  abbrev pub func_size : Func → ℕ
-  func_size f = entry_size f + (sts_size (argument_words f) f.named f.body + leave_size f.named)
+      entry_code f ++ (sts_code p (argument_words f) f.named (slots_of f) f.body 0 0 0 (pc + entry_size p f) ++ leave_code (slots_of f) (argument_words f) f.named)
 
   abbrev pub entry_of : Func → ℕ → Entry
-  entry_of f pc = record { frame = frame_of p f; arguments = argument_words f; results = result_words f; start = pc }
+  entry_of f pc = record { frame = frame_of p l f; arguments = argument_words f; results = result_words f; start = pc }
 
-  -- functions one after the other, from a place and a number on
+  -- functions one after the other, from a place on
   abbrev pub funcs_code : List Func → (pc : ℕ) → List Instr
   funcs_code [] pc = []
-  funcs_code (f ∷ gs) pc = func_code f pc ++ funcs_code gs (pc + func_size f)
-
-  abbrev pub funcs_owners : List Func → (number : ℕ) → List ℕ
-  funcs_owners [] number = []
-  funcs_owners (f ∷ gs) number = replicate (func_size f) number ++ funcs_owners gs (number + 1)
+  funcs_code (f ∷ gs) pc = func_code f pc ++ funcs_code gs (pc + func_size p f)
 
   abbrev pub funcs_entries : List Func → (pc : ℕ) → List Entry
   funcs_entries [] pc = []
-  funcs_entries (f ∷ gs) pc = entry_of f pc ∷ funcs_entries gs (pc + func_size f)
+  funcs_entries (f ∷ gs) pc = entry_of f pc ∷ funcs_entries gs (pc + func_size p f)
 
--- the code of a program
-abbrev pub code_of : Program → Tables
-code_of p = record {
-  instrs = funcs_code p p.funcs 0;
+-- the code of a program with a placement
+abbrev pub code_of : Program → Placement → Tables
+code_of p l = record {
+  instrs = funcs_code p l p.funcs 0;
   owners = funcs_owners p p.funcs 0;
-  funcs = funcs_entries p p.funcs 0;
+  funcs = funcs_entries p l p.funcs 0;
   strings = p.strings;
 }

@@ -18,8 +18,8 @@
 //! of contents, and then of words, also where the words that hold something change while the value stays. What holds of all these are
 //! the laws of `value_laws`, in terms of `slice` and `with_slice`, which read and replace a number of words from an index on.
 //!
-//! `specs/Syntax` is the syntax of programs, `specs/Form` says which programs are in form, `specs/Frames` what their frames hold,
-//! and `specs/Placement` which variables live on the heap.
+//! `specs/Syntax` is the syntax of programs, and `specs/Form` says which programs are in form. What their frames hold, and which
+//! variables live on the heap, is said in `frames`, on which no stage before the code stands.
 #![tactic(auto)]
 
 mod operators;

@@ -1,5 +1,5 @@
 use Rattle.std.proofs.Common.{◌≡◌, drop}
-use Rattle.typed_syntax.specs.Frames.{steps_far}
+use Rattle.frames.specs.Frames.{steps_far}
 use Rattle.typed.specs.View.{steps_of}
 use Rattle.expression_code.proofs.parts.is_far.Given as goal
 

@@ -1,6 +1,6 @@
 use Rattle.std.proofs.Common.{◌≡◌, max, drop}
 use Rattle.typed.specs.View.{sts_of, program_of}
-use Rattle.typed_syntax.specs.Frames.{sts_reach}
+use Rattle.frames.specs.Frames.{sts_reach}
 use Rattle.frame_layout.proofs.outgoing.+reach.Given as goal
 
 abbrev pub invariant-body_reach-loop-s : goal.invariant-body_reach-loop-s

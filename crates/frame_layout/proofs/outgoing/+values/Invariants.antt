@@ -1,6 +1,6 @@
 use Rattle.std.proofs.Common.{◌≡◌, max, drop}
 use Rattle.typed.specs.View.{elements_of, exs_of, program_of, steps_of}
-use Rattle.typed_syntax.specs.Frames.{elements_reach, reach_all, steps_reach}
+use Rattle.frames.specs.Frames.{elements_reach, reach_all, steps_reach}
 use Rattle.frame_layout.proofs.outgoing.+values.Given as goal
 
 abbrev pub invariant-steps_reach-loop-step : goal.invariant-steps_reach-loop-step

@@ -1,6 +1,6 @@
 use Rattle.std.proofs.Common.{◌≡◌, max, drop, map}
 use Rattle.typed.specs.View.{left_of, program_of}
-use Rattle.typed_syntax.specs.Frames.{lefts_reach}
+use Rattle.frames.specs.Frames.{lefts_reach}
 use Rattle.frame_layout.proofs.outgoing.lefts_reach.Given as goal
 
 abbrev pub invariant-loop-left : goal.invariant-loop-left

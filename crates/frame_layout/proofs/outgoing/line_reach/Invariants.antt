@@ -1,6 +1,6 @@
 use Rattle.std.proofs.Common.{◌≡◌, max, drop, map}
 use Rattle.typed.specs.View.{piece_of, program_of}
-use Rattle.typed_syntax.specs.Frames.{reach_pieces}
+use Rattle.frames.specs.Frames.{reach_pieces}
 use Rattle.frame_layout.proofs.outgoing.line_reach.Given as goal
 
 abbrev pub invariant-loop-p : goal.invariant-loop-p

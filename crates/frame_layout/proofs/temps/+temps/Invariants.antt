@@ -1,6 +1,6 @@
 use Rattle.std.proofs.Common.{◌≡◌, max, drop}
 use Rattle.typed.specs.View.{program_of, site_numbers, sts_of}
-use Rattle.typed_syntax.specs.Frames.{sts_need}
+use Rattle.frames.specs.Frames.{sts_need}
 use Rattle.frame_layout.proofs.temps.+temps.Given as goal
 
 abbrev pub invariant-body_temps-loop-s : goal.invariant-body_temps-loop-s

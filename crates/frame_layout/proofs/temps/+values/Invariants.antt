@@ -1,7 +1,7 @@
 use Rattle.std.proofs.Common.{◌≡◌, ◌+◌, max, drop}
 use Rattle.typed_syntax.specs.Syntax.{type_named}
 use Rattle.typed.specs.View.{elements_of, exs_of, program_of, steps_of}
-use Rattle.typed_syntax.specs.Frames.{elements_need, need_all, steps_need}
+use Rattle.frames.specs.Frames.{elements_need, need_all, steps_need}
 use Rattle.frame_layout.proofs.temps.+values.Given as goal
 
 abbrev pub invariant-steps_temps-loop-step : goal.invariant-steps_temps-loop-step

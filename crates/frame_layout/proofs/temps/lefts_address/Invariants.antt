@@ -1,6 +1,6 @@
 use Rattle.std.proofs.Common.{◌≡◌, ◌≤◌, max, drop, map}
 use Rattle.typed.specs.View.{left_of}
-use Rattle.typed_syntax.specs.Frames.{lefts_far}
+use Rattle.frames.specs.Frames.{lefts_far}
 use Rattle.frame_layout.proofs.temps.lefts_address.Given as goal
 
 abbrev pub invariant-loop-left : goal.invariant-loop-left

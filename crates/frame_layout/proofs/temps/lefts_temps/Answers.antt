@@ -1,7 +1,7 @@
 use Rattle.std.proofs.Common.{◌≡◌, ◌+◌, ◌-◌, [], ◌∷◌, map, take, sym, ap, ◌∙◌, arith}
 use Rattle.typed.specs.declared.stmt.Left.{Left}
 use Rattle.typed.specs.View.{left_of, program_of}
-use Rattle.typed_syntax.specs.Frames.{lefts_need}
+use Rattle.frames.specs.Frames.{lefts_need}
 use Rattle.frame_layout.proofs.Sides.{taken_last}
 use Rattle.frame_layout.proofs.temps.lefts_temps.Goals as goal
 

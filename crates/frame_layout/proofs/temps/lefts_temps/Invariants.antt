@@ -1,6 +1,6 @@
 use Rattle.std.proofs.Common.{◌≡◌, map, take}
 use Rattle.typed.specs.View.{left_of, program_of}
-use Rattle.typed_syntax.specs.Frames.{lefts_need}
+use Rattle.frames.specs.Frames.{lefts_need}
 use Rattle.frame_layout.proofs.temps.lefts_temps.Given as goal
 
 abbrev pub invariant-loop-i : goal.invariant-loop-i

@@ -1,6 +1,6 @@
 use Rattle.std.proofs.Common.{◌≡◌, ◌+◌, max, drop, map}
 use Rattle.typed.specs.View.{piece_of, program_of}
-use Rattle.typed_syntax.specs.Frames.{need_pieces}
+use Rattle.frames.specs.Frames.{need_pieces}
 use Rattle.frame_layout.proofs.temps.line_temps.Given as goal
 
 abbrev pub invariant-loop-p : goal.invariant-loop-p

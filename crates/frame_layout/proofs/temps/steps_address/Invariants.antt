@@ -1,6 +1,6 @@
 use Rattle.std.proofs.Common.{◌≡◌, drop}
 use Rattle.typed.specs.View.{steps_of}
-use Rattle.typed_syntax.specs.Frames.{steps_far}
+use Rattle.frames.specs.Frames.{steps_far}
 use Rattle.frame_layout.proofs.temps.steps_address.Given as goal
 
 abbrev pub invariant-loop-step : goal.invariant-loop-step

@@ -1,5 +1,5 @@
 use Rattle.std.proofs.Common.{◌≡◌, max, drop}
-use Rattle.typed_syntax.specs.Frames.{widest}
+use Rattle.frames.specs.Frames.{widest}
 use Rattle.typed.specs.View.{program_of, site_numbers}
 use Rattle.frame_layout.proofs.words.widest.Given as goal
 

@@ -1,6 +1,8 @@
 -- The words of a frame, from its lowest address: the outgoing area, in which the arguments of a call stand and then its
--- results; the temps that values are worked out in; the words of each site; the link and the return place.
-use Rattle.std.specs.Prelude.{ℕ, zero, suc, ◌+◌, Bool, true, false, List, [], ◌∷◌, Option, Some, None, max, get_or, slice_get}
+-- results; the temps that values are worked out in; a cell for each site whose variables live on the heap, which has the address of the
+-- newest one; the words of each other site; the link and the return place.
+use Rattle.std.specs.Prelude.{ℕ, zero, suc, ◌+◌, Bool, true, false, List, [], ◌∷◌, Option, Some, None, max, get_or, slice_get, if◌then◌else◌}
+use Rattle.frames.specs.Placement.{Placement}
 use Rattle.typed_syntax.specs.Types.{TypeTree, ints, width, part_type, part_offset}
 use Rattle.typed_syntax.specs.Value.{words}
 use Rattle.typed_syntax.specs.Syntax.{Ex, Exs, Pl, Steps, here, inner, at_index, Left, Piece, Over, St, Sts, Func, Program, constant, read, unary, binary, logical_and, logical_or, call, part_of, literal, Elements, no_elements, element, local, global, none, more, results, read_int, blank, new, to, text, shown, over_int, over_length, over_copy, declare, assign, update, bump, discard, block, if_stmt, for_stmt, range, break_stmt, continue_stmt, return_stmt, print, panic, exit, done, next, arguments_of, results_of, type_named, site_type, site_width, place_width, wide, all_wide, ascend}
@@ -26,10 +28,21 @@ abbrev pub lefts_far : List Left → ℕ
 lefts_far [] = 0
 lefts_far (l ∷ ls) = max (left_far l) (lefts_far ls)
 
--- the words of `count` sites from one on
-abbrev pub words_between : List TypeTree → (from count : ℕ) → ℕ
-words_between sites from zero = 0
-words_between sites from (suc n) = width (get_or sites from ints) + words_between sites (suc from) n
+-- the words of a site in a frame, beside its cell, and its cell
+abbrev pub stack_words : Placement → List TypeTree → (site : ℕ) → ℕ
+stack_words l sites site = if l.on_heap site then 0 else width (get_or sites site ints)
+
+abbrev pub cell_words : Placement → (site : ℕ) → ℕ
+cell_words l site = if l.on_heap site then 1 else 0
+
+-- those of `count` sites from one on
+abbrev pub words_between : Placement → List TypeTree → (from count : ℕ) → ℕ
+words_between l sites from zero = 0
+words_between l sites from (suc n) = stack_words l sites from + words_between l sites (suc from) n
+
+abbrev pub cells_between : Placement → (from count : ℕ) → ℕ
+cells_between l from zero = 0
+cells_between l from (suc n) = cell_words l from + cells_between l (suc from) n
 
 -- words of values, and after them an address, if there is one
 abbrev pub behind_values : (values address : ℕ) → ℕ
@@ -231,21 +244,29 @@ module _ (p : Program) where
     sts_reach done = 0
     sts_reach (next s ss) = max (st_reach s) (sts_reach ss)
 
-  -- the outgoing area and the temps of a function
+  -- the outgoing area of a function
   abbrev pub outgoing_of : Func → ℕ
   outgoing_of f = sts_reach f.body
 
-  abbrev pub temps_of : Func → ℕ
-  temps_of f = sts_need f.named f.body
+-- at the entry of a function, its parameters whose variables live on the heap go through temps
+abbrev pub entry_need : Placement → List (Option ℕ) → List TypeTree → ℕ
+entry_need l [] ts = 0
+entry_need l (q ∷ ps) [] = 0
+entry_need l (None ∷ ps) (t ∷ ts) = entry_need l ps ts
+entry_need l (Some site ∷ ps) (t ∷ ts) = max (if l.on_heap site then width t else 0) (entry_need l ps ts)
 
-  -- the words of its frame
+module _ (p : Program) (l : Placement) where
+  -- the temps of a function, and the words of its frame
+  abbrev pub temps_of : Func → ℕ
+  temps_of f = max (entry_need l f.params f.param_types) (sts_need p f.named f.body)
+
   abbrev pub frame_of : Func → ℕ
-  frame_of f = 2 + words_between p.sites f.first f.count + temps_of f + outgoing_of f
+  frame_of f = 2 + words_between l p.sites f.first f.count + cells_between l f.first f.count + temps_of f + outgoing_of p f
 
   abbrev pub frame_in : Option Func → ℕ
   frame_in None = 0
   frame_in (Some f) = frame_of f
 
 -- the words of the frame of a program's function, by its number
-abbrev pub frame_words : Program → ℕ → ℕ
-frame_words p f = frame_in p (slice_get p.funcs f)
+abbrev pub frame_words : Program → Placement → ℕ → ℕ
+frame_words p l f = frame_in p l (slice_get p.funcs f)

@@ -1,9 +1,10 @@
-//! What no clause of `frame_layout` says: that the call succeeds where memory is ample; and worked frames.
+//! What no clause of `placement` and `frame_layout` says: that the calls succeed where memory is ample; and worked frames.
 
 ghost use Rattle.std.specs.Prelude.{◌<◌, length};
 
 use base::{FuncId, Pos, SiteId, TypeId, ValueType};
 use frame_layout::{FrameLayout, layout_of};
+use placement::{Placement, package_alone};
 use std::alloc::Global;
 use std::process::Abort;
 use std::test::Fail;
@@ -127,13 +128,19 @@ fn element_of_an_array(alloc: Global) -> Result<Program, Fail> {
     Ok(program_of(alloc, funcs, types, sites))
 }
 
-fn check_array(rt: &impl Abort, alloc: Global, program: &Program) -> Result<(), Fail> {
-    let layouts = layout_of(alloc, program)?;
-    // The index, the value and the address of the element; and the array's two words.
+// The frame of `main` has these words. Its temps are the index, the value and the address of the element.
+fn check_array(
+    rt: &impl Abort,
+    alloc: Global,
+    program: &Program,
+    placement: &Placement,
+    frame: u16,
+) -> Result<(), Fail> {
+    let layouts = layout_of(alloc, program, placement)?;
     let want = FrameLayout {
         outgoing: 2,
         temps: 3,
-        frame: 9,
+        frame,
     };
     assert_eq!(rt; layouts.frames().get(1), Some(&want));
     Ok(())
@@ -142,11 +149,16 @@ fn check_array(rt: &impl Abort, alloc: Global, program: &Program) -> Result<(), 
 #[test]
 fn arrays_are_laid_out(rt: HostRuntime) -> Result<(), Fail> {
     let program = element_of_an_array(rt.alloc())?;
-    check_array(&rt, rt.alloc(), &program)
+    let mut placement = package_alone(rt.alloc(), &program)?;
+    // The array's two words, and where it lives on the heap its cell.
+    check_array(&rt, rt.alloc(), &program, &placement, 9)?;
+    placement.put_on_heap(SiteId(0))?;
+    check_array(&rt, rt.alloc(), &program, &placement, 8)
 }
 
 fn check_frames(rt: &impl Abort, alloc: Global, program: &Program) -> Result<(), Fail> {
-    let layouts = layout_of(alloc, program)?;
+    let placement = package_alone(alloc, program)?;
+    let layouts = layout_of(alloc, program, &placement)?;
     let want = [
         FrameLayout {
             outgoing: 0,

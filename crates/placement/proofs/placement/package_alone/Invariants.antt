@@ -1,0 +1,11 @@
+use Rattle.std.proofs.Common.{◌≡◌, ℕ, ◌||◌, drop, map}
+use Rattle.frames.specs.Placement.{among}
+use Rattle.typed.specs.View.{global_of, program_of}
+use Rattle.placement.specs.Told.{placement_of}
+use Rattle.placement.proofs.placement.package_alone.Given as goal
+
+abbrev pub invariant-loop-global : goal.invariant-loop-global
+invariant-loop-global l =
+    (site : ℕ)
+    → (placement_of l.placement).on_heap site || among site (map (global_of (program_of l.program).sites) (drop l.global-index l.globals))
+    ≡ among site (map (global_of (program_of l.program).sites) l.globals)
