@@ -8,8 +8,7 @@ use Rattle.heap_bump.specs.Words.{Words, AreTaken, first_address, with_word}
 use Rattle.isa.specs.Code.{Tables, IsCode}
 use Rattle.isa.specs.declared.func.Func.{Func as Entry}
 use Rattle.machine.specs.Inside.{Inside}
-use Rattle.machine.specs.Machine.{Event}
-use Rattle.machine.specs.declared.run_state.Ending.{Ending as Stop}
+use Rattle.machine.specs.Machine.{Event, Last as Halt}
 use Rattle.machine.specs.declared.run_state.Ending.TheVariants as Machine
 use Rattle.simulation.specs.Outcome.{Outcome, Ends}
 use Rattle.typed_syntax.specs.Types.{TypeTree, width}
@@ -69,16 +68,16 @@ first_taken t (Some c) ws more at asked same e n =
     (omega (arith, e), omega (arith, e, one, long, length-append ws (replicate asked 0), length-replicate {A = ℕ} asked 0))
 
 -- a test that was decided
-pub gated : (b : Bool) (x y : Outcome Event Stop) → b ≡ true → (if b then x else y) ≡ x
+pub gated : (b : Bool) (x y : Outcome Event Halt) → b ≡ true → (if b then x else y) ≡ x
 gated true x y e = refl
 gated false x y e = absurd (let f : false ≡ true = e in cc)
 
-pub shut : (b : Bool) (x y : Outcome Event Stop) → b ≡ false → (if b then x else y) ≡ y
+pub shut : (b : Bool) (x y : Outcome Event Halt) → b ≡ false → (if b then x else y) ≡ y
 shut false x y e = refl
 shut true x y e = absurd (let f : true ≡ false = e in cc)
 
 -- one variable, and those after it
-module _ (sites : List TypeTree) (gs : List PackageVariable) (i : ℕ) (g : PackageVariable) (l : i < length gs) (is : g ≡ get_or gs i g) (max : ℕ) (heap : List ℕ) (follow : List ℕ → Outcome Event Stop) where
+module _ (sites : List TypeTree) (gs : List PackageVariable) (i : ℕ) (g : PackageVariable) (l : i < length gs) (is : g ≡ get_or gs i g) (max : ℕ) (heap : List ℕ) (follow : List ℕ → Outcome Event Halt) where
   abbrev now : List (List ℕ)
   now = first_words (map (global_of sites) (drop i gs))
 
@@ -93,7 +92,7 @@ module _ (sites : List TypeTree) (gs : List PackageVariable) (i : ℕ) (g : Pack
   begun_more : length heap + length (begun_words sites g) ≤ max → begun max heap now follow ≡ begun max (heap ++ begun_words sites g) behind follow
   begun_more room = ap (λ ws. begun max heap ws follow) split ∙ gated (nat_le (length heap + length (begun_words sites g)) max) _ _ (le-leb (length heap + length (begun_words sites g)) max room)
 
-  begun_full : max < length heap + length (begun_words sites g) → begun max heap now follow ≡ Ends (Machine.HeapLimit (length heap) (length (begun_words sites g)) max)
+  begun_full : max < length heap + length (begun_words sites g) → begun max heap now follow ≡ Ends (record { ending = Machine.HeapLimit (length heap) (length (begun_words sites g)) max; heap = length heap })
   begun_full full = ap (λ ws. begun max heap ws follow) split ∙ shut (nat_le (length heap + length (begun_words sites g)) max) _ _ (lt-leb (length heap + length (begun_words sites g)) max full)
 
 -- what stands in a list does not hang on what would stand behind it
@@ -104,7 +103,7 @@ same_item (g ∷ gs) (suc i) d e l = same_item gs i d e (omega (arith, l))
 
 pub step_begun : (sites : List TypeTree) (gs : List PackageVariable) (i : ℕ) → i < length gs → (g d : PackageVariable) → g ≡ get_or gs i d → (max : ℕ) (heap new : Words) → heap.max ≡ max
     → new ≡ record { words = heap.words ++ begun_words sites g; max = heap.max } → length heap.words + length (begun_words sites g) ≤ heap.max
-    → (new.max ≡ max) × ((follow : List ℕ → Outcome Event Stop) → begun max heap.words (first_words (map (global_of sites) (drop i gs))) follow ≡ begun max new.words (first_words (map (global_of sites) (drop (i + 1) gs))) follow)
+    → (new.max ≡ max) × ((follow : List ℕ → Outcome Event Halt) → begun max heap.words (first_words (map (global_of sites) (drop i gs))) follow ≡ begun max new.words (first_words (map (global_of sites) (drop (i + 1) gs))) follow)
 step_begun sites gs i l g d is max heap new same grown room = (
   ap (λ (h : Words). h.max) grown ∙ same,
   λ follow. begun_more sites gs i g l (is ∙ same_item gs i d g l) max heap.words follow (omega (arith, room, same)) ∙ ap (λ (h : Words). begun max h.words (first_words (map (global_of sites) (drop (i + 1) gs))) follow) (sym grown),
@@ -112,7 +111,7 @@ step_begun sites gs i l g d is max heap new same grown room = (
 
 pub fault_begun : (sites : List TypeTree) (gs : List PackageVariable) (i : ℕ) → i < length gs → (g d : PackageVariable) → g ≡ get_or gs i d → (max : ℕ) (heap : Words) → heap.max ≡ max → (e : RunFault)
     → IsHeapFault (heap.max < length heap.words + length (begun_words sites g)) (length heap.words) (length (begun_words sites g)) heap.max e
-    → (whole : List (List ℕ)) → ((follow : List ℕ → Outcome Event Stop) → begun max [] whole follow ≡ begun max heap.words (first_words (map (global_of sites) (drop i gs))) follow) → IsBeginFault max whole e
+    → (whole : List (List ℕ)) → ((follow : List ℕ → Outcome Event Halt) → begun max [] whole follow ≡ begun max heap.words (first_words (map (global_of sites) (drop i gs))) follow) → IsBeginFault max whole e
 fault_begun sites gs i l g d is max heap same e (inl none) whole begins = inl none
 fault_begun sites gs i l g d is max heap same e (inr full) whole begins =
     let used = length heap.words in let asked = length (begun_words sites g) in let passes = full.0 in
@@ -125,5 +124,5 @@ past [] (suc i) l = refl
 past (g ∷ gs) zero l = absurd (omega arith)
 past (g ∷ gs) (suc i) l = past gs i (omega arith)
 
-pub begun_all : (sites : List TypeTree) (gs : List PackageVariable) (i : ℕ) → length gs ≤ i → (max : ℕ) (heap : List ℕ) (follow : List ℕ → Outcome Event Stop) → begun max heap (first_words (map (global_of sites) (drop i gs))) follow ≡ follow heap
+pub begun_all : (sites : List TypeTree) (gs : List PackageVariable) (i : ℕ) → length gs ≤ i → (max : ℕ) (heap : List ℕ) (follow : List ℕ → Outcome Event Halt) → begun max heap (first_words (map (global_of sites) (drop i gs))) follow ≡ follow heap
 begun_all sites gs i l max heap follow = ap (λ (ys : List PackageVariable). begun max heap (first_words (map (global_of sites) ys)) follow) (past gs i l)

@@ -9,34 +9,37 @@ use Rattle.typed_syntax.specs.Syntax.{Program}
 use Rattle.typed_syntax.specs.Form.{IsInForm}
 use Rattle.meaning.specs.Trace.{Fault, Ending, Exit, Panic, Turns, StackLimit, HeapLimit}
 use Rattle.meaning.specs.Meaning.{Item}
-use Rattle.meaning.specs.Output.{Sight, printing, asking, source, output, AsksBehind}
-use Rattle.simulation.specs.Outcome.{Outcome, Gives, Ends, Unfinished, Below, events_in, ending_in}
+use Rattle.frames.specs.Placement.{Placement, IsPlaced, package_alone}
+use Rattle.meaning.specs.Output.{Sight, Last, printing, asking, source, output, ending_in, AsksBehind}
+use Rattle.simulation.specs.Outcome.{Outcome, Gives, Ends, Unfinished, Below, events_in, ending_in as last_in}
 use Rattle.simulation.specs.Steps.{Stops, events_of, many, shown_by}
 use Rattle.simulation.proofs.Whole.{shows, events_shown, ending_giving}
 use Rattle.heap_bump.specs.Words.{Words}
 use Rattle.isa.specs.Code.{Tables}
 use Rattle.isa.specs.declared.func.Func.{Func as Entry}
-use Rattle.machine.specs.Machine.{State, Does, Event, Printed, Asked, bytes_of, asks_in, act}
+use Rattle.machine.specs.Machine.{State, Last as Halt, full_range, last_of, Does, Event, Printed, Asked, bytes_of, asks_in, act}
 use Rattle.machine.specs.Answers.{Answers, ReadInOrder, ReadsUpTo, WithAnswers, printed_by, state_of}
 use Rattle.machine.specs.declared.run_state.Panic.{Panic as MachinePanic}
 use Rattle.machine.specs.declared.run_state.Ending.{Ending as Stop}
 use Rattle.machine.specs.declared.run_state.Ending.TheVariants.{Exit as Stopped, Panic as Panicked, ReadFault, WriteFault, NoMemory, StackLimit as Limit, HeapLimit as Full, WildReturn, WildLink, WildAddress, WildHeader}
 use Rattle.program_code.specs.Code.{code_of}
+use Rattle.program_code.proofs.Sites.{package_placed}
 use Rattle.program_code.proofs.Stands.{compiled}
 use Rattle.simulated_code.proofs.Follows.{simulated}
-use Rattle.simulated_code.specs.Correct.{same_event, same_fault, same_end, limits, first_words, target, entered, first_state, Simulated, AreNumbers}
+use Rattle.simulated_code.specs.Correct.{same_event, same_fault, same_end, same_last, limits, first_words, target, entered, first_state, Simulated, AreNumbers}
 use Rattle.code_runs.specs.Runs.{asks_of, AreBegun, AsksFor, FindsNoRoom, PrintsInPart, Ran, ReadBy, answer_to}
 use Rattle.code_runs.specs.declared.running.RunFault.{RunFault}
 use Rattle.code_runs.specs.declared.running.RunFault.TheVariants as fault
 use Rattle.code_runs.proofs.Items.{reading_of, are_numbers, has_answers}
 use Rattle.code_runs.proofs.Begun.{gated, shut}
 
--- the theorem, of tables that are the program's code
-pub simulates : (p : Program) (code : Tables) → IsInForm p → code ≡ code_of p → Simulated p code
-simulates p code form is = subst (λ (t : Tables). Simulated p t) (sym is) (simulated p (code_of p) (compiled p) form refl)
+-- the theorem, of tables that are the program's code where the variables of the package alone live on the heap
+pub simulates : (p : Program) (code : Tables) → IsInForm p → code ≡ code_of p (package_alone p) → Simulated p (package_alone p) code
+simulates p code form is =
+    let l = package_alone p in subst (λ (t : Tables). Simulated p l t) (sym is) (simulated p l (code_of p l) (compiled p l) form (package_placed p form) refl)
 
 -- what is said of a run's answer, of one that stands for an ending of the machine
-abbrev RanAs : List (List ℕ) → (few many : Outcome Sight Ending) → Option (Result ℕ RunFault) → ℕ → (old new : Option (List ℕ)) → (before now : ℕ) → Type 0
+abbrev RanAs : List (List ℕ) → (few many : Outcome Sight Last) → Option (Result ℕ RunFault) → ℕ → (old new : Option (List ℕ)) → (before now : ℕ) → Type 0
 RanAs strings few many (Some r) answered old new before now = Ran strings few many r answered old new before now
 RanAs strings few many None answered old new before now = ⊥
 
@@ -62,7 +65,7 @@ rest_same : (x y : Event) (xs ys : List Event) → x ∷ xs ≡ y ∷ ys → xs 
 rest_same x y xs ys e = cc
 
 -- an item that is asked for by its number is asked for
-pub asks_behind : (k : ℕ) (before : List ℕ) (o : Outcome Sight Ending) → AsksFor k before o → AsksBehind before o
+pub asks_behind : (k : ℕ) (before : List ℕ) (o : Outcome Sight Last) → AsksFor k before o → AsksBehind before o
 asks_behind k before (Gives (printing bytes) o) (rest, e, a) = (rest, e, asks_behind k rest o a)
 asks_behind zero before (Gives asking o) a = inl a
 asks_behind (suc k) before (Gives asking o) a = inr (asks_behind k before o a)
@@ -70,7 +73,7 @@ asks_behind k before (Ends e) a = a
 asks_behind k before Unfinished a = a
 
 -- what was taken of a piece and before it is a front of all output
-pub part_of_output : (k : ℕ) (text : List ℕ) (o : Outcome Sight Ending) → PrintsInPart k text o → (rest : List ℕ) × (text ++ rest ≡ output o)
+pub part_of_output : (k : ℕ) (text : List ℕ) (o : Outcome Sight Last) → PrintsInPart k text o → (rest : List ℕ) × (text ++ rest ≡ output o)
 part_of_output k text (Gives (printing bytes) o) (inl cut) = (cut.1.0 ++ output o, sym (append_assoc text cut.1.0 (output o)) ∙ ap (λ l. l ++ output o) cut.1.1)
 part_of_output k text (Gives (printing bytes) o) (inr (front, e, later)) =
     let r = part_of_output k front o later in (r.0, ap (λ l. l ++ r.0) e ∙ append_assoc bytes front r.0 ∙ ap (λ l. bytes ++ l) r.1)
@@ -79,7 +82,7 @@ part_of_output (suc k) text (Gives asking o) a = part_of_output k text o a
 part_of_output k text (Ends e) a = absurd a
 part_of_output k text Unfinished a = absurd a
 
-pub asked_before : (k : ℕ) (text : List ℕ) (o : Outcome Sight Ending) → PrintsInPart k text o → k ≤ asks_of o
+pub asked_before : (k : ℕ) (text : List ℕ) (o : Outcome Sight Last) → PrintsInPart k text o → k ≤ asks_of o
 asked_before k text (Gives (printing bytes) o) (inl cut) = let none = cut.0 in omega (arith, none)
 asked_before k text (Gives (printing bytes) o) (inr (front, e, later)) = asked_before k front o later
 asked_before zero text (Gives asking o) a = absurd a
@@ -88,11 +91,11 @@ asked_before k text (Ends e) a = absurd a
 asked_before k text Unfinished a = absurd a
 
 module _ (strings : List (List ℕ)) where
-  abbrev Within : Outcome Event Stop → Outcome Sight Ending → Type 0
-  Within p o = Below (λ d e. same_event e d) (λ d e. same_end strings e d) p o
+  abbrev Within : Outcome Event Halt → Outcome Sight Last → Type 0
+  Within p o = Below (λ d e. same_event e d) (λ d e. same_last strings e d) p o
 
   -- what a run shows is a front of what the source shows
-  part : (p : Outcome Event Stop) (o : Outcome Sight Ending) → Within p o → (rest : List ℕ) × (bytes_of (events_in p) ++ rest ≡ output o)
+  part : (p : Outcome Event Halt) (o : Outcome Sight Last) → Within p o → (rest : List ℕ) × (bytes_of (events_in p) ++ rest ≡ output o)
   part Unfinished o b = (output o, refl)
   part (Ends e) (Ends f) b = ([], refl)
   part (Ends e) (Gives x o) b = absurd b
@@ -111,7 +114,7 @@ module _ (strings : List (List ℕ)) where
   one_asked y es e = ap (λ (v : Event). asks_in (v ∷ es)) e
 
   -- it asks for no more items
-  fewer_asks : (p : Outcome Event Stop) (o : Outcome Sight Ending) → Within p o → asks_in (events_in p) ≤ asks_of o
+  fewer_asks : (p : Outcome Event Halt) (o : Outcome Sight Last) → Within p o → asks_in (events_in p) ≤ asks_of o
   fewer_asks Unfinished o b = omega arith
   fewer_asks (Ends e) o b = omega arith
   fewer_asks (Gives y p) (Gives (printing x) o) (e, b) = let r = fewer_asks p o b in let q = told_asks y x (events_in p) e in omega (arith, r, q)
@@ -120,7 +123,7 @@ module _ (strings : List (List ℕ)) where
   fewer_asks (Gives y p) Unfinished b = absurd b
 
   -- an item that a run asks for is one that the source asks for, after the same output and as many others
-  asked_for : (before after : List Event) (p : Outcome Event Stop) (o : Outcome Sight Ending) → Within p o → events_in p ≡ before ++ (Asked ∷ after) → AsksFor (asks_in before) (bytes_of before) o
+  asked_for : (before after : List Event) (p : Outcome Event Halt) (o : Outcome Sight Last) → Within p o → events_in p ≡ before ++ (Asked ∷ after) → AsksFor (asks_in before) (bytes_of before) o
   asked_for [] after Unfinished o b h = absurd (no_item h)
   asked_for (v ∷ before) after Unfinished o b h = absurd (no_item h)
   asked_for [] after (Ends e) o b h = absurd (no_item h)
@@ -139,7 +142,7 @@ module _ (strings : List (List ℕ)) where
   asked_for before after (Gives y p) Unfinished b h = absurd b
 
   -- a piece that a run prints is one that the source prints, after the same output and as many items
-  printed_in_part : (before after : List Event) (front rest : List ℕ) (p : Outcome Event Stop) (o : Outcome Sight Ending) → Within p o → events_in p ≡ before ++ (Printed (front ++ rest) ∷ after) → 0 < length rest
+  printed_in_part : (before after : List Event) (front rest : List ℕ) (p : Outcome Event Halt) (o : Outcome Sight Last) → Within p o → events_in p ≡ before ++ (Printed (front ++ rest) ∷ after) → 0 < length rest
       → PrintsInPart (asks_in before) (bytes_of before ++ front) o
   printed_in_part [] after front rest Unfinished o b h short = absurd (no_item h)
   printed_in_part (v ∷ before) after front rest Unfinished o b h short = absurd (no_item h)
@@ -164,16 +167,16 @@ module _ (strings : List (List ℕ)) where
   printed_in_part before after front rest (Gives y p) Unfinished b h short = absurd b
 
   -- what has ended is all that the source shows
-  record Met (y : Stop) (p : Outcome Event Stop) (o : Outcome Sight Ending) : Type 0 where
+  record Met (y : Halt) (p : Outcome Event Halt) (o : Outcome Sight Last) : Type 0 where
     ending : Ending
     ended : ending_in o ≡ Some ending
-    alike : same_end strings ending y
+    alike : same_end strings ending y.ending
     all : output o ≡ bytes_of (events_in p)
     asked : asks_of o ≡ asks_in (events_in p)
 
-  met : (p : Outcome Event Stop) (o : Outcome Sight Ending) (y : Stop) → Within p o → ending_in p ≡ Some y → Met y p o
+  met : (p : Outcome Event Halt) (o : Outcome Sight Last) (y : Halt) → Within p o → last_in p ≡ Some y → Met y p o
   met Unfinished o y b h = absurd (none_some h)
-  met (Ends e) (Ends f) y b h = record { ending = f; ended = refl; alike = subst (λ z. same_end strings f z) (some_same e y h) b; all = refl; asked = refl }
+  met (Ends e) (Ends f) y b h = record { ending = f.ending; ended = refl; alike = subst (λ (z : Halt). same_end strings f.ending z.ending) (some_same e y h) b.0; all = refl; asked = refl }
   met (Ends e) (Gives x o) y b h = absurd b
   met (Ends e) Unfinished y b h = absurd b
   met (Gives d p) (Gives (printing x) o) y (e, b) h =
@@ -186,7 +189,7 @@ module _ (strings : List (List ℕ)) where
   met (Gives d p) Unfinished y b h = absurd b
 
   -- what has not ended shows at least what few turns show, and these have not ended
-  open_yet : (o : Outcome Sight Ending) (p : Outcome Event Stop) → Below same_event (same_end strings) o p → ending_in p ≡ None → (ending_in o ≡ None) × ((rest : List ℕ) × (output o ++ rest ≡ bytes_of (events_in p))) × (asks_of o ≤ asks_in (events_in p))
+  open_yet : (o : Outcome Sight Last) (p : Outcome Event Halt) → Below same_event (same_last strings) o p → last_in p ≡ None → (ending_in o ≡ None) × ((rest : List ℕ) × (output o ++ rest ≡ bytes_of (events_in p))) × (asks_of o ≤ asks_in (events_in p))
   open_yet Unfinished p b h = (refl, (bytes_of (events_in p), refl), omega arith)
   open_yet (Ends e) (Ends f) b h = absurd (none_some (sym h))
   open_yet (Ends e) (Gives y p) b h = absurd b
@@ -257,7 +260,7 @@ module _ (strings : List (List ℕ)) where
   header_is (Panic at f) x a = a
 
   -- the steps' outcome against the source
-  module _ (few many_turns : Outcome Sight Ending) (d : Does) (s : State) (answered : ℕ) (old new : Option (List ℕ)) (before now : ℕ) (low : Below same_event (same_end strings) few (shown_by d)) (high : Within (shown_by d) many_turns) where
+  module _ (few many_turns : Outcome Sight Last) (d : Does) (s : State) (answered : ℕ) (old new : Option (List ℕ)) (before now : ℕ) (low : Below same_event (same_last strings) few (shown_by d)) (high : Within (shown_by d) many_turns) where
     told : bytes_of (events_in (shown_by d)) ≡ printed_by d
     told = ap bytes_of (events_shown d)
 
@@ -271,13 +274,13 @@ module _ (strings : List (List ℕ)) where
     within_asks : answered ≤ asks_in (events_of d) → answered ≤ asks_of many_turns
     within_asks le = let f = fewer_asks (shown_by d) many_turns high in omega (arith, le, f, told_asked)
 
-    ends : (e : Stop) → d ≡ Stops (events_of d) e → Met e (shown_by d) many_turns
-    ends e is = met (shown_by d) many_turns e high (ap (λ (x : Does). ending_in (shown_by x)) is ∙ ending_giving (events_of d) (Ends e))
+    ends : (e : Halt) → d ≡ Stops (events_of d) e → Met e (shown_by d) many_turns
+    ends e is = met (shown_by d) many_turns e high (ap (λ (x : Does). last_in (shown_by x)) is ∙ ending_giving (events_of d) (Ends e))
 
-    whole : (e : Stop) → Met e (shown_by d) many_turns → Took old new (printed_by d) → Took old new (output many_turns)
+    whole : (e : Halt) → Met e (shown_by d) many_turns → Took old new (printed_by d) → Took old new (output many_turns)
     whole e m a = subst (λ x. Took old new x) (sym (m.all ∙ told)) a
 
-    whole_asked : (e : Stop) → Met e (shown_by d) many_turns → asks_in (events_of d) ≡ answered → asks_of many_turns ≡ answered
+    whole_asked : (e : Halt) → Met e (shown_by d) many_turns → asks_in (events_of d) ≡ answered → asks_of many_turns ≡ answered
     whole_asked e m a = m.asked ∙ told_asked ∙ a
 
     -- a front of what is printed is one of what the source shows
@@ -288,7 +291,7 @@ module _ (strings : List (List ℕ)) where
 
     ran : (e : Option Stop) → Answers d s answered e old new before now → RanAs strings few many_turns (answer_to e) answered old new before now
     ran None (goes, took, asked) =
-        let o = open_yet few (shown_by d) low (ap (λ (x : Does). ending_in (shown_by x)) goes ∙ ending_giving (events_of d) Unfinished) in
+        let o = open_yet few (shown_by d) low (ap (λ (x : Does). last_in (shown_by x)) goes ∙ ending_giving (events_of d) Unfinished) in
         let least = o.2 in
         (o.0, record { bytes = printed_by d; took = took; begins = (o.1.0, o.1.1 ∙ told); within = front }, omega (arith, least, told_asked, asked), within_asks (omega (arith, asked)))
     ran (Some ReadFault) a =
@@ -302,34 +305,34 @@ module _ (strings : List (List ℕ)) where
     )
     ran (Some NoMemory) (t, asked) = (widened t, within_asks asked)
     ran (Some (Stopped n)) (stops, took, asked) =
-        let m = ends (Stopped n) stops in (m.ended ∙ ap (λ x. Some x) (exit_is m.ending n m.alike), whole (Stopped n) m took, whole_asked (Stopped n) m asked)
+        let m = ends (last_of s (Stopped n)) stops in (m.ended ∙ ap (λ x. Some x) (exit_is m.ending n m.alike), whole (last_of s (Stopped n)) m took, whole_asked (last_of s (Stopped n)) m asked)
     ran (Some (Panicked x)) (stops, took, asked) =
-        let m = ends (Panicked x) stops in let i = panic_is m.ending x m.alike in
-        (i.0, i.1, m.ended ∙ ap (λ y. Some y) i.2, i.3, whole (Panicked x) m took, whole_asked (Panicked x) m asked)
+        let m = ends (last_of s (Panicked x)) stops in let i = panic_is m.ending x m.alike in
+        (i.0, i.1, m.ended ∙ ap (λ y. Some y) i.2, i.3, whole (last_of s (Panicked x)) m took, whole_asked (last_of s (Panicked x)) m asked)
     ran (Some (Limit u k l)) (stops, took, asked) =
-        let m = ends (Limit u k l) stops in (m.ended ∙ ap (λ x. Some x) (limit_is m.ending u k l m.alike), whole (Limit u k l) m took, whole_asked (Limit u k l) m asked)
+        let m = ends (last_of s (Limit u k l)) stops in (m.ended ∙ ap (λ x. Some x) (limit_is m.ending u k l m.alike), whole (last_of s (Limit u k l)) m took, whole_asked (last_of s (Limit u k l)) m asked)
     ran (Some (Full u k l)) (stops, took, asked) =
-        let m = ends (Full u k l) stops in (m.ended ∙ ap (λ x. Some x) (heap_is m.ending u k l m.alike), whole (Full u k l) m took, whole_asked (Full u k l) m asked)
-    ran (Some (WildReturn x)) a = let m = ends (WildReturn x) a.0 in absurd (place_is m.ending x m.alike)
-    ran (Some (WildLink x)) a = let m = ends (WildLink x) a.0 in absurd (link_is m.ending x m.alike)
-    ran (Some (WildAddress x)) a = let m = ends (WildAddress x) a.0 in absurd (address_is m.ending x m.alike)
-    ran (Some (WildHeader x)) a = let m = ends (WildHeader x) a.0 in absurd (header_is m.ending x m.alike)
+        let m = ends (last_of s (Full u k l)) stops in (m.ended ∙ ap (λ x. Some x) (heap_is m.ending u k l m.alike), whole (last_of s (Full u k l)) m took, whole_asked (last_of s (Full u k l)) m asked)
+    ran (Some (WildReturn x)) a = let m = ends (last_of s (WildReturn x)) a.0 in absurd (place_is m.ending x m.alike)
+    ran (Some (WildLink x)) a = let m = ends (last_of s (WildLink x)) a.0 in absurd (link_is m.ending x m.alike)
+    ran (Some (WildAddress x)) a = let m = ends (last_of s (WildAddress x)) a.0 in absurd (address_is m.ending x m.alike)
+    ran (Some (WildHeader x)) a = let m = ends (last_of s (WildHeader x)) a.0 in absurd (header_is m.ending x m.alike)
 
-module _ (p : Program) (code : Tables) (is : Simulated p code) (items : ℕ → Item) (numbers : AreNumbers items) (max heap_max steps : ℕ) (stack : max ≤ 2 ^ 32) (small : heap_max ≤ 2 ^ 32) where
-  abbrev few : Outcome Sight Ending
-  few = source items p (limits p max heap_max) (steps / 16)
+module _ (p : Program) (code : Tables) (is : Simulated p (package_alone p) code) (items : ℕ → Item) (numbers : AreNumbers items) (max heap_max steps : ℕ) (stack : max ≤ 2 ^ 32) (small : heap_max ≤ 2 ^ 32) where
+  abbrev few : Outcome Sight Last
+  few = source items p (limits p (package_alone p) max heap_max) (steps / 16)
 
-  abbrev turns : Outcome Sight Ending
-  turns = source items p (limits p max heap_max) steps
+  abbrev turns : Outcome Sight Last
+  turns = source items p (limits p (package_alone p) max heap_max) steps
 
-  abbrev goal : Outcome Event Stop
+  abbrev goal : Outcome Event Halt
   goal = target code items (first_words p.globals) p.main max heap_max steps
 
-  few_below : Below same_event (same_end p.strings) few goal
+  few_below : Below same_event (same_last p.strings) few goal
   few_below = is.at_least items numbers max heap_max (steps / 16) steps stack small (omega arith)
 
   -- a run that ends before its first instruction
-  at_once : (e : Stop) (old : Option (List ℕ)) → goal ≡ Ends e → (m : Met p.strings e (Ends e) turns) × Took old old (output turns)
+  at_once : (e : Halt) (old : Option (List ℕ)) → goal ≡ Ends e → (m : Met p.strings e (Ends e) turns) × Took old old (output turns)
   at_once e old same =
       let m = met p.strings (Ends e) turns e (subst (λ o. Within p.strings o turns) same (is.at_most items numbers max heap_max steps stack small)) refl in
       (m, subst (λ x. Took old old x) (sym m.all) (Took-nothing old))
@@ -337,7 +340,7 @@ module _ (p : Program) (code : Tables) (is : Simulated p code) (items : ℕ → 
   -- where the package variables have no room
   pub full : (old : Option (List ℕ)) (faults used asked : ℕ) → FindsNoRoom heap_max (first_words p.globals) used asked → Ran p.strings few turns (Err (fault.HeapLimit used asked heap_max)) 0 old old faults faults
   full old faults used asked passes =
-      let r = at_once (Full used asked heap_max) old (passes _) in
+      let r = at_once (record { ending = Full used asked heap_max; heap = used }) old (passes _) in
       (r.0.ended ∙ ap (λ x. Some x) (heap_is p.strings r.0.ending used asked heap_max r.0.alike), r.1, r.0.asked)
 
   -- where there is no memory for them, or for the first frame
@@ -354,27 +357,27 @@ module _ (p : Program) (code : Tables) (is : Simulated p code) (items : ℕ → 
 
     -- of a block of words that is the first frame, and such a heap
     composed : (block : List ℕ) (first : Words) (s : State) (answered : ℕ) (e : Option Stop) (old new : Option (List ℕ)) (before now : ℕ) → nat_le fn.frame max ≡ true → block ≡ replicate fn.frame 0 → first ≡ heap
-        → Answers (many (act code max items) steps (state_of block (record { pc = fn.start; base = 0 }) 0 first)) s answered e old new before now
+        → Answers (many (act code max items) steps (state_of (full_range max) block (record { pc = fn.start; base = 0 }) 0 first)) s answered e old new before now
         → RanAs p.strings few turns (answer_to e) answered old new before now
     composed block first s answered e old new before now fits zeros begins a =
-        let d = many (act code max items) steps (first_state fn heap) in
-        let same : goal ≡ shown_by d = enters ∙ gated (nat_le fn.frame max) _ _ fits ∙ shows State Event Stop (act code max items) steps (first_state fn heap) in
+        let d = many (act code max items) steps (first_state fn max heap) in
+        let same : goal ≡ shown_by d = enters ∙ gated (nat_le fn.frame max) _ _ fits ∙ shows State Event Halt (act code max items) steps (first_state fn max heap) in
         ran p.strings few turns d s answered old new before now
-        (subst (λ o. Below same_event (same_end p.strings) few o) same few_below)
+        (subst (λ o. Below same_event (same_last p.strings) few o) same few_below)
         (subst (λ o. Within p.strings o turns) same (is.at_most items numbers max heap_max steps stack small)) e
-        (subst (λ (h : Words). let s0 : State = record { pc = fn.start; words = replicate fn.frame 0; reads = 0; heap = h } in Answers (many (act code max items) steps s0) s answered e old new before now) begins
-        (subst (λ (ws : List ℕ). let s0 : State = record { pc = fn.start; words = ws; reads = 0; heap = first } in Answers (many (act code max items) steps s0) s answered e old new before now) zeros a))
+        (subst (λ (h : Words). let s0 : State = record { pc = fn.start; range = full_range max; words = replicate fn.frame 0; reads = 0; heap = h } in Answers (many (act code max items) steps s0) s answered e old new before now) begins
+        (subst (λ (ws : List ℕ). let s0 : State = record { pc = fn.start; range = full_range max; words = ws; reads = 0; heap = first } in Answers (many (act code max items) steps s0) s answered e old new before now) zeros a))
 
     -- an answer that stands for the ending
     pub answers : (block : List ℕ) (first : Words) (s : State) (answered : ℕ) (e : Option Stop) (r : Result ℕ RunFault) (old new : Option (List ℕ)) (before now : ℕ) → nat_le fn.frame max ≡ true → block ≡ replicate fn.frame 0 → first ≡ heap
-        → answer_to e ≡ Some r → Answers (many (act code max items) steps (state_of block (record { pc = fn.start; base = 0 }) 0 first)) s answered e old new before now
+        → answer_to e ≡ Some r → Answers (many (act code max items) steps (state_of (full_range max) block (record { pc = fn.start; base = 0 }) 0 first)) s answered e old new before now
         → Ran p.strings few turns r answered old new before now
     answers block first s answered e r old new before now fits zeros begins is a =
         subst (λ x. RanAs p.strings few turns x answered old new before now) is (composed block first s answered e old new before now fits zeros begins a)
 
     -- there is one
     pub tame : (block : List ℕ) (first : Words) (s : State) (answered : ℕ) (e : Option Stop) (old new : Option (List ℕ)) (before now : ℕ) → nat_le fn.frame max ≡ true → block ≡ replicate fn.frame 0 → first ≡ heap
-        → Answers (many (act code max items) steps (state_of block (record { pc = fn.start; base = 0 }) 0 first)) s answered e old new before now
+        → Answers (many (act code max items) steps (state_of (full_range max) block (record { pc = fn.start; base = 0 }) 0 first)) s answered e old new before now
         → answer_to e ≢ None
     tame block first s answered e old new before now fits zeros begins a none =
         subst (λ x. RanAs p.strings few turns x answered old new before now) none (composed block first s answered e old new before now fits zeros begins a)
@@ -382,7 +385,7 @@ module _ (p : Program) (code : Tables) (is : Simulated p code) (items : ℕ → 
     -- where the first frame passes the limit
     pub refused : (old : Option (List ℕ)) (faults : ℕ) → nat_le fn.frame max ≡ false → Ran p.strings few turns (Err (fault.StackLimit 0 fn.frame max)) 0 old old faults faults
     refused old faults passes =
-        let r = at_once (Limit 0 fn.frame max) old (enters ∙ shut (nat_le fn.frame max) _ _ passes) in
+        let r = at_once (record { ending = Limit 0 fn.frame max; heap = length taken }) old (enters ∙ shut (nat_le fn.frame max) _ _ passes) in
         (r.0.ended ∙ ap (λ x. Some x) (limit_is p.strings r.0.ending 0 fn.frame max r.0.alike), r.1, r.0.asked)
 
 -- a reader that holds nothing has to give what the source has left

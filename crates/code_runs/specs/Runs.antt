@@ -11,10 +11,11 @@ use Rattle.typed.specs.declared.program.PackageVariable.{PackageVariable}
 use Rattle.typed.specs.View.{first_value, value_of}
 use Rattle.meaning.specs.Trace.{Ending, Exit, Panic, StackLimit, HeapLimit, Fault}
 use Rattle.meaning.specs.Meaning.{Item}
-use Rattle.meaning.specs.Output.{Sight, printing, asking, source, output}
-use Rattle.simulation.specs.Outcome.{Outcome, Gives, Ends, Unfinished, ending_in}
+use Rattle.frames.specs.Placement.{package_alone}
+use Rattle.meaning.specs.Output.{Sight, Last, printing, asking, source, output, ending_in}
+use Rattle.simulation.specs.Outcome.{Outcome, Gives, Ends, Unfinished}
 use Rattle.heap_bump.specs.Words.{with_word}
-use Rattle.machine.specs.Machine.{Event}
+use Rattle.machine.specs.Machine.{Event, Last as Halt}
 use Rattle.machine.specs.Answers.{AllNumbers, ReadInOrder, HasFrom}
 use Rattle.machine.specs.declared.run_state.Ending.{Ending as Stop}
 use Rattle.machine.specs.declared.run_state.Ending.TheVariants as Machine
@@ -31,14 +32,14 @@ pub record Between (few many : List ℕ) (old new : Option (List ℕ)) : Type 0 
   pub within : (rest : List ℕ) × (bytes ++ rest ≡ many)
 
 -- how often a bounded run asks for an item
-abbrev pub asks_of : Outcome Sight Ending → ℕ
+abbrev pub asks_of : Outcome Sight Last → ℕ
 asks_of (Gives (printing bytes) o) = asks_of o
 asks_of (Gives asking o) = suc (asks_of o)
 asks_of (Ends e) = 0
 asks_of Unfinished = 0
 
 -- a bounded run asks for the item of this number after this output
-abbrev pub AsksFor : ℕ → List ℕ → Outcome Sight Ending → Type 0
+abbrev pub AsksFor : ℕ → List ℕ → Outcome Sight Last → Type 0
 AsksFor k before (Gives (printing bytes) o) = (rest : List ℕ) × (before ≡ bytes ++ rest) × AsksFor k rest o
 AsksFor zero before (Gives asking o) = before ≡ []
 AsksFor (suc k) before (Gives asking o) = AsksFor k before o
@@ -51,7 +52,7 @@ IsShortOf text piece = (rest : List ℕ) × (text ++ rest ≡ piece) × (0 < len
 
 -- after it asked for k items, a bounded run prints a piece, and this text is what it prints before and a front of the piece, but
 -- not all of it
-abbrev pub PrintsInPart : ℕ → List ℕ → Outcome Sight Ending → Type 0
+abbrev pub PrintsInPart : ℕ → List ℕ → Outcome Sight Last → Type 0
 PrintsInPart k text (Gives (printing bytes) o) = ((k ≡ 0) × IsShortOf text bytes) ⊎ ((rest : List ℕ) × (text ≡ bytes ++ rest) × PrintsInPart k rest o)
 PrintsInPart zero text (Gives asking o) = ⊥
 PrintsInPart (suc k) text (Gives asking o) = PrintsInPart k text o
@@ -63,7 +64,7 @@ PrintsInPart k text Unfinished = ⊥
 -- and items between both; a fault of the input, at an item that the source asks for after just what was taken; one of the sink,
 -- at a piece that the source prints after the items that were read, of which a part was taken and all that is printed before;
 -- or one of memory.
-abbrev pub Ran : (strings : List (List ℕ)) → (few many : Outcome Sight Ending) → Result ℕ RunFault → (answered : ℕ) → (old new : Option (List ℕ)) → (before now : ℕ) → Type 0
+abbrev pub Ran : (strings : List (List ℕ)) → (few many : Outcome Sight Last) → Result ℕ RunFault → (answered : ℕ) → (old new : Option (List ℕ)) → (before now : ℕ) → Type 0
 Ran strings few many (Ok status) answered old new before now = (ending_in many ≡ Some (Exit status)) × Took old new (output many) × (asks_of many ≡ answered)
 Ran strings few many (Err (fault.Panic x)) answered old new before now =
     (at : Position) × (f : Fault) × (ending_in many ≡ Some (Panic at f)) × same_fault strings f x × Took old new (output many) × (asks_of many ≡ answered)
@@ -80,7 +81,7 @@ Ran strings few many (Err fault.NoMemory) answered old new before now = TookPref
 -- the same of a program's source under these limits, in a sixteenth of `steps` turns and in as many
 abbrev pub RanUnder : Program → (stack_max heap_max steps : ℕ) → Result ℕ RunFault → (old new : Option (List ℕ)) → (before now : ℕ) → (ℕ → Item) → (answered : ℕ) → Type 0
 RanUnder p stack_max heap_max steps result old new before now items answered =
-    Ran p.strings (source items p (limits p stack_max heap_max) (steps / 16)) (source items p (limits p stack_max heap_max) steps) result answered old new before now
+    Ran p.strings (source items p (limits p (package_alone p) stack_max heap_max) (steps / 16)) (source items p (limits p (package_alone p) stack_max heap_max) steps) result answered old new before now
 
 -- What a run read of an input with these bytes left, and what it did. All that is known of the items of the input are the
 -- answers that came in order: so for whatever items, numbers of 64 bits, begin with them, a claim holds that is also told how
@@ -124,11 +125,11 @@ with_first words at (Some c) = with_word words at (word_of (value_of c))
 -- package variables that begin with these words have room in a heap of at most max words, and this is the heap that a run of the code begins
 -- with
 abbrev pub AreBegun : (max : ℕ) → List (List ℕ) → (heap : List ℕ) → Type 0
-AreBegun max globals heap = (follow : List ℕ → Outcome Event Stop) → begun max [] globals follow ≡ follow heap
+AreBegun max globals heap = (follow : List ℕ → Outcome Event Halt) → begun max [] globals follow ≡ follow heap
 
 -- one of them has none: so many words were taken before, and it asks for so many
 abbrev pub FindsNoRoom : (max : ℕ) → List (List ℕ) → (used asked : ℕ) → Type 0
-FindsNoRoom max globals used asked = (follow : List ℕ → Outcome Event Stop) → begun max [] globals follow ≡ Ends (Machine.HeapLimit used asked max)
+FindsNoRoom max globals used asked = (follow : List ℕ → Outcome Event Halt) → begun max [] globals follow ≡ Ends (record { ending = Machine.HeapLimit used asked max; heap = used })
 
 -- why a run did not begin: memory was refused, or the first package variable without room is reported
 abbrev pub IsBeginFault : (max : ℕ) → List (List ℕ) → RunFault → Type 0

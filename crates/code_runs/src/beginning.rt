@@ -52,9 +52,13 @@ fn put_first(heap: &mut Heap, at: u64, value: Option<Const>)
 
 // The words of one more package variable are taken.
 fn add(heap: &mut Heap, program: &Program, global: PackageVariable) -> Result<(), RunFault>
-    ensures words { OnOk result (heap.new ≡ record heap.old { words = heap.old.words ++ begun_words (sites_in program.now) global }) }
+    ensures words { OnOk result (heap.new ≡ record heap.old {
+      words = heap.old.words
+          ++ begun_words (sites_in program.now) global;
+    }) }
     ensures room { OnOk result (length heap.old.words + length (begun_words (sites_in program.now) global) ≤ heap.old.max) }
-    ensures fault { IfErr result (IsHeapFault (heap.old.max < length heap.old.words + length (begun_words (sites_in program.now) global))
+    ensures fault { IfErr result (IsHeapFault
+        (heap.old.max < length heap.old.words + length (begun_words (sites_in program.now) global))
         (length heap.old.words) (length (begun_words (sites_in program.now) global)) heap.old.max) }
 {
     match heap.take(words_asked(program, global)) {

@@ -5,6 +5,7 @@ ghost use Rattle.machine.specs.Answers.{StatusFits};
 ghost use Rattle.typed.specs.View.{program_of};
 ghost use Rattle.typed_syntax.specs.Form.{IsInForm};
 ghost use Rattle.outside.specs.Causes.{Rose};
+ghost use Rattle.frames.specs.Placement.{package_alone};
 ghost use Rattle.program_code.specs.Code.{code_of};
 ghost use Rattle.code_runs.specs.Runs.{RanUnder, ReadBy, answer_to};
 ghost use Rattle.code_runs.specs.declared.running.RunFault.{RunFault};
@@ -111,13 +112,14 @@ pub fn run<I: Source, O: Sink>(
     out: &mut O,
 ) -> Result<u8, RunFault>
     requires form { IsInForm (program_of program.now) }
-    requires code { code.now ≡ code_of (program_of program.now) }
+    requires code { code.now ≡ code_of (program_of program.now) (package_alone (program_of program.now)) }
     requires main { program.now.main.0 < length code.now.funcs }
     requires stack { stack_max ≤ 2 ^ 32 }
     requires heap { heap_max ≤ 2 ^ 32 }
     requires small { length code.now.instrs < 2 ^ 40 }
     ensures runs { ReadBy result (I.left input.old) (input.new ≡ input.old)
-        (RanUnder (program_of program.now) stack_max heap_max steps result (O.taken out.old) (O.taken out.new) (O.faults out.old) (O.faults out.new)) }
+        (RanUnder (program_of program.now) stack_max heap_max steps result (O.taken out.old) (O.taken out.new)
+        (O.faults out.old) (O.faults out.new)) }
     ensures source_later { I.faults input.old ≤ I.faults input.new }
     ensures read_fault { result ≡ Err RunFault.ReadFault → Rose (I.faults input.old) (I.faults input.new) }
 {

@@ -20,7 +20,8 @@ use Rattle.type_faults.specs.declared.fault.TypeFault.TheVariants as typing
 use Rattle.types_go.specs.Checked.{Types, Reports, OnlyProgram}
 use Rattle.typed_syntax.specs.Syntax.{Func, Program}
 use Rattle.typed.specs.View.{func_of, program_of}
-use Rattle.typed_syntax.specs.Frames.{frame_of}
+use Rattle.frames.specs.Placement.{Placement, package_alone}
+use Rattle.frames.specs.Frames.{frame_of}
 use Rattle.typed.specs.declared.program.Func.{Func as FuncData}
 use Rattle.typed.specs.declared.program.Program.{Program as ProgramData}
 use Rattle.frame_layout.specs.declared.fault.LayoutFault.{LayoutFault}
@@ -33,14 +34,14 @@ use Rattle.compile.specs.declared.fault.CompileFault.TheVariants.{NoMemory}
 
 -- all frames keep the size
 record Fits (p : Program) : Type 0 where
-  all : (f : ℕ) (func : Func) → slice_get p.funcs f ≡ Some func → frame_of p func ≤ 65535
+  all : (f : ℕ) (func : Func) → slice_get p.funcs f ≡ Some func → frame_of p (package_alone p) func ≤ 65535
 
-none_large : (p : Program) (gs : List FuncData) → ((f : ℕ) (func : Func) → slice_get (map (func_of p.types) gs) f ≡ Some func → frame_of p func ≤ 65535) → first_too_large p gs ≡ None
-none_large p [] fits = refl
-none_large p (g ∷ gs) fits =
-    let small : nat_lt 65535 (frame_of p (func_of p.types g)) ≡ false = le-ltb 65535 (frame_of p (func_of p.types g)) (fits 0 (func_of p.types g) refl) in
-    ap (λ (b : Bool). or_else (if b then Some (record { pos = g.pos; words = frame_of p (func_of p.types g) }) else None) (first_too_large p gs)) small
-    ∙ none_large p gs (λ f func is. fits (suc f) func is)
+none_large : (p : Program) (pl : Placement) (gs : List FuncData) → ((f : ℕ) (func : Func) → slice_get (map (func_of p.types) gs) f ≡ Some func → frame_of p pl func ≤ 65535) → first_too_large p pl gs ≡ None
+none_large p pl [] fits = refl
+none_large p pl (g ∷ gs) fits =
+    let small : nat_lt 65535 (frame_of p pl (func_of p.types g)) ≡ false = le-ltb 65535 (frame_of p pl (func_of p.types g)) (fits 0 (func_of p.types g) refl) in
+    ap (λ (b : Bool). or_else (if b then Some (record { pos = g.pos; words = frame_of p pl (func_of p.types g) }) else None) (first_too_large p pl gs)) small
+    ∙ none_large p pl gs (λ f func is. fits (suc f) func is)
 
 or_none : (k l : Option Large) → or_else k l ≡ None → (k ≡ None) × (l ≡ None)
 or_none None l h = (refl, h)
@@ -51,14 +52,14 @@ not_large true k h = absurd cc
 not_large false k h = refl
 
 -- where no frame is too large, all keep the size
-pub fits_all : (p : Program) (gs : List FuncData) → first_too_large p gs ≡ None → (f : ℕ) (func : Func) → slice_get (map (func_of p.types) gs) f ≡ Some func → frame_of p func ≤ 65535
-fits_all p [] none f func is = absurd cc
-fits_all p (g ∷ gs) none zero func is =
-    let both = or_none _ (first_too_large p gs) none in
-    let small = not_large (nat_lt 65535 (frame_of p (func_of p.types g))) _ both.0 in
+pub fits_all : (p : Program) (pl : Placement) (gs : List FuncData) → first_too_large p pl gs ≡ None → (f : ℕ) (func : Func) → slice_get (map (func_of p.types) gs) f ≡ Some func → frame_of p pl func ≤ 65535
+fits_all p pl [] none f func is = absurd cc
+fits_all p pl (g ∷ gs) none zero func is =
+    let both = or_none _ (first_too_large p pl gs) none in
+    let small = not_large (nat_lt 65535 (frame_of p pl (func_of p.types g))) _ both.0 in
     let same : func_of p.types g ≡ func = cc in
-    subst (λ (h : Func). frame_of p h ≤ 65535) same (ltb-false 65535 (frame_of p (func_of p.types g)) small)
-fits_all p (g ∷ gs) none (suc f) func is = fits_all p gs (or_none _ (first_too_large p gs) none).1 f func is
+    subst (λ (h : Func). frame_of p pl h ≤ 65535) same (ltb-false 65535 (frame_of p pl (func_of p.types g)) small)
+fits_all p pl (g ∷ gs) none (suc f) func is = fits_all p pl gs (or_none _ (first_too_large p pl gs) none).1 f func is
 
 module _ (text : List ℕ) where
   -- the scanner: an accepted text has tokens
@@ -96,12 +97,12 @@ module _ (text : List ℕ) where
       program_only q only p a = only p (same_types p a.program)
 
       -- the layout: an accepted text's frames fit
-      pub layout_only : (q : ProgramData) (f : LayoutFault) → ((p : Program) → Types tree p → program_of q ≡ p) → IsTooLarge (first_too_large (program_of q) q.funcs.items) f → (p : Program) → Accepted text p → of_layout f ≡ NoMemory
+      pub layout_only : (q : ProgramData) (f : LayoutFault) → ((p : Program) → Types tree p → program_of q ≡ p) → IsTooLarge (first_too_large (program_of q) (package_alone (program_of q)) q.funcs.items) f → (p : Program) → Accepted text p → of_layout f ≡ NoMemory
       layout_only q layout.NoMemory only large p a = refl
       layout_only q (layout.FrameTooLarge at words) only large p a =
           let is : program_of q ≡ p = program_only q only p a in
           let fits : Fits (program_of q) = subst Fits (sym is) (record { all = a.fits }) in
-          let none = none_large (program_of q) q.funcs.items fits.all in
+          let none = none_large (program_of q) (package_alone (program_of q)) q.funcs.items fits.all in
           absurd (let e = sym none ∙ large in cc)
 
   -- what the checker refuses
@@ -110,7 +111,7 @@ module _ (text : List ℕ) where
   type_refuses tree (typing.Fault f) has least = record { tree = tree; has = has; least = least; fault = λ e. cc e }
 
   -- what the layout refuses
-  pub layout_refuses : (tree : Syntax) (q : ProgramData) (f : LayoutFault) → HasTree text tree → Types tree (program_of q) → StandAtNames q tree → IsTooLarge (first_too_large (program_of q) q.funcs.items) f → Refuses text (of_layout f)
+  pub layout_refuses : (tree : Syntax) (q : ProgramData) (f : LayoutFault) → HasTree text tree → Types tree (program_of q) → StandAtNames q tree → IsTooLarge (first_too_large (program_of q) (package_alone (program_of q)) q.funcs.items) f → Refuses text (of_layout f)
   layout_refuses tree q layout.NoMemory has types names large = tt
   layout_refuses tree q (layout.FrameTooLarge at words) has types names large = record { tree = tree; has = has; program = q; types = types; names = names; large = large; fault = λ e. cc e }
 

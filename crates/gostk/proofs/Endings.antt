@@ -6,12 +6,12 @@ use Rattle.typed_syntax.specs.Positions.{Position}
 use Rattle.typed_syntax.specs.Value.{Value, int}
 use Rattle.typed_syntax.specs.Syntax.{Ex, Exs, Pl, Steps, Elements, Left, Piece, Over, St, Sts, Func, Program, constant, read, unary, binary, logical_and, logical_or, call, part_of, literal, no_elements, element, none, more, results, read_int, local, global, here, inner, at_index, blank, new, to, text, shown, over_int, over_length, over_copy, declare, assign, update, bump, discard, block, if_stmt, for_stmt, range, break_stmt, continue_stmt, return_stmt, print, panic, exit, done, next}
 use Rattle.simulation.specs.Outcome as Run
-use Rattle.simulation.specs.Outcome.{Outcome, Gives, Ends, Unfinished, upto, ending_in}
-use Rattle.meaning.specs.Trace.{World, Call, Return, Born, Read, Write, Print, Fault, exit_code, Ending, Turns, Exit, Panic, StackLimit, HeapLimit, Trace, Turn, Note, Seen, End, Cut, Asked}
+use Rattle.simulation.specs.Outcome.{Outcome, Gives, Ends, Unfinished, upto}
+use Rattle.meaning.specs.Trace.{World, Held, Call, Return, Born, Read, Write, Print, Fault, exit_code, Ending, Turns, Exit, Panic, StackLimit, HeapLimit, Trace, Turn, Note, Seen, End, Cut, Asked}
 use Rattle.meaning.specs.Store.{read_at, written}
 use Rattle.meaning.specs.Operators.{unary_of, binary_of}
-use Rattle.meaning.specs.Meaning.{Go, Then, Env, Ways, Calls, home, read_part, stop, write_part, Item, Setting, counted, count_of, int_of, quit_with, give, or_panic, holding, holding_all, when, is_true, Step, fixed, worked, element_of, Aim, Spot, settle_steps, settle, walk, aim, ev, fill, evs, Landing, nowhere, birth, on, landing_values, ready, ready_all, land, land_all, shown_bytes, emit_more, emit_plain, emit, pieces, test_of, renew, rounds, to_next, to_next_count, in_loop, outside, begin_range, index_round, element_round, range_round, exec, exec_all, bear_params, bear_zeros, write_results, read_results, leave, leave_with, run_body, call_at, bear_globals, setting_of, at_top, beginning, trace}
-use Rattle.meaning.specs.Output.{Limits, Sight, out, source, used_by, tail_of}
+use Rattle.meaning.specs.Meaning.{Go, Then, Env, Ways, Calls, home, read_part, stop, write_part, Item, Setting, counted, count_of, int_of, quit_with, give, or_panic, holding, holding_all, when, is_true, Step, fixed, worked, element_of, Aim, Spot, settle_steps, settle, walk, aim, ev, fill, evs, Landing, nowhere, birth, on, landing_values, base_values, ready, ready_all, land, land_all, shown_bytes, emit_more, emit_plain, emit, pieces, test_of, renew, rounds, to_next, to_next_count, in_loop, outside, begin_range, index_round, element_round, range_round, exec, exec_all, bear_params, bear_zeros, write_results, read_results, leave, leave_with, run_body, call_at, bear_globals, setting_of, at_top, beginning, trace}
+use Rattle.meaning.specs.Output.{Limits, Sight, Last, last, ending_in, out, source, used_by, tail_of}
 
 abbrev IsGood : Ending → Type 0
 IsGood Turns = ⊤
@@ -40,10 +40,10 @@ record GoodWays (ws : Ways) : Type 0 where
   returned : (vs : List Value) (env : Env) → Good (ws.returned vs env)
   panicked : (at : Position) (f : Fault) (env : Env) → Good (ws.panicked at f env)
 
-good_holding : (ws : Ways) (v : Value) → GoodWays ws → GoodWays (holding ws v)
-good_holding ws v s = record { broken = s.broken; continued = s.continued; returned = s.returned; panicked = s.panicked }
+good_holding : (ws : Ways) (e : Ex) (v : Value) → GoodWays ws → GoodWays (holding ws e v)
+good_holding ws e v s = record { broken = s.broken; continued = s.continued; returned = s.returned; panicked = s.panicked }
 
-good_holding_all : (ws : Ways) (vs : List Value) → GoodWays ws → GoodWays (holding_all ws vs)
+good_holding_all : (ws : Ways) (vs : List Held) → GoodWays ws → GoodWays (holding_all ws vs)
 good_holding_all ws vs s = record { broken = s.broken; continued = s.continued; returned = s.returned; panicked = s.panicked }
 
 good_or_panic : {A : Type 0} (ws : Ways) (env : Env) (at : Position) (r : Result A Fault) (k : Then A) → GoodWays ws → GoodThen k → Good (or_panic ws env at r k)
@@ -53,7 +53,7 @@ good_or_panic ws env at (Err f) k s h = s.panicked at f env
 good_steps : (ws : Ways) (env : Env) (steps : List Step) (v : ℕ) (path : List ℕ) (k : Then Spot) → GoodWays ws → GoodThen k → Good (settle_steps ws env steps v path k)
 good_steps ws env [] v path k s h = h _
 good_steps ws env (fixed i ∷ steps) v path k s h = good_steps ws env steps v _ k s h
-good_steps ws env (worked at x n ∷ steps) v path k s h = λ w. good_or_panic ws env at (element_of (int_of x) n) _ s (λ i. good_steps ws env steps v _ k s h) w
+good_steps ws env (worked at e x n ∷ steps) v path k s h = λ w. good_or_panic ws env at (element_of (int_of x) n) _ s (λ i. good_steps ws env steps v _ k s h) w
 
 good_settle : (ws : Ways) (env : Env) (a : Aim) (k : Then Spot) → GoodWays ws → GoodThen k → Good (settle ws env a k)
 good_settle ws env a k s h = λ w. good_steps ws env a.steps _ _ k s h w
@@ -71,7 +71,7 @@ module _ (around : Setting) (calls : Calls) (gc : GoodCalls calls) where
     good_walk : (steps : Steps) (ws : Ways) (env : Env) (k : Then (List Step)) → GoodWays ws → GoodThen k → Good (walk around calls steps ws env k)
     good_walk here ws env k s h = h []
     good_walk (inner i steps) ws env k s h = good_walk steps ws env _ s (λ r. h (fixed i ∷ r))
-    good_walk (at_index at e n steps) ws env k s h = good_ev e ws env _ s (λ v. good_walk steps (holding ws v) env _ (good_holding ws v s) (λ r. h (worked at v n ∷ r)))
+    good_walk (at_index at e n steps) ws env k s h = good_ev e ws env _ s (λ v. good_walk steps (holding ws e v) env _ (good_holding ws e v s) (λ r. h (worked at e v n ∷ r)))
 
     good_aim : (q : Pl) (ws : Ways) (env : Env) (k : Then Aim) → GoodWays ws → GoodThen k → Good (aim around calls q ws env k)
     good_aim (local site steps) ws env k s h = good_walk steps ws env _ s (λ r. h _)
@@ -82,7 +82,7 @@ module _ (around : Setting) (calls : Calls) (gc : GoodCalls calls) where
     good_ev (read q) ws env k s h = good_aim q ws env _ s (λ a. good_settle ws env a _ s (λ spot w. h _ w))
     good_ev (unary op e) ws env k s h = good_ev e ws env _ s (λ v w. h (unary_of op v) w)
     good_ev (binary at op a b) ws env k s h =
-        good_ev a ws env _ s (λ v. good_ev b (holding ws v) env _ (good_holding ws v s) (λ u w. good_or_panic ws env at (binary_of op v u) (give ws k) s (λ x y. h x y) w))
+        good_ev a ws env _ s (λ v. good_ev b (holding ws a v) env _ (good_holding ws a v s) (λ u w. good_or_panic ws env at (binary_of op v u) (give ws (binary at op a b) k) s (λ x y. h x y) w))
     good_ev (logical_and a b) ws env k s h = good_ev a ws env _ s (λ v w. good_when (is_true v) _ _ (good_ev b ws env k s h) (λ w1. h _ w1) w)
     good_ev (logical_or a b) ws env k s h = good_ev a ws env _ s (λ v w. good_when (is_true v) _ _ (λ w1. h _ w1) (good_ev b ws env k s h) w)
     good_ev (call f es) ws env k s h = good_evs es ws env _ s (λ vs w. gc.by f vs ws env _ s (λ rs w1. h _ w1) w)
@@ -91,11 +91,11 @@ module _ (around : Setting) (calls : Calls) (gc : GoodCalls calls) where
 
     good_fill : (es : Elements) (x : Value) (ws : Ways) (env : Env) (k : Then Value) → GoodWays ws → GoodThen k → Good (fill around calls es x ws env k)
     good_fill no_elements x ws env k s h = h x
-    good_fill (element i e es) x ws env k s h = good_ev e ws env _ s (λ v. good_fill es _ (holding ws v) env k (good_holding ws v s) h)
+    good_fill (element i e es) x ws env k s h = good_ev e ws env _ s (λ v. good_fill es _ (holding ws e v) env k (good_holding ws e v s) h)
 
     good_evs : (es : Exs) (ws : Ways) (env : Env) (k : Then (List Value)) → GoodWays ws → GoodThen k → Good (evs around calls es ws env k)
     good_evs none ws env k s h = h []
-    good_evs (more e es) ws env k s h = good_ev e ws env _ s (λ v. good_evs es (holding ws v) env _ (good_holding ws v s) (λ vs. h (v ∷ vs)))
+    good_evs (more e es) ws env k s h = good_ev e ws env _ s (λ v. good_evs es (holding ws e v) env _ (good_holding ws e v s) (λ vs. h (v ∷ vs)))
     good_evs (results f es) ws env k s h = good_evs es ws env _ s (λ vs w. gc.by f vs ws env _ s (λ rs w1. h rs w1) w)
     good_evs read_int ws env k s h = λ w. h _ _
 
@@ -108,12 +108,12 @@ module _ (around : Setting) (calls : Calls) (gc : GoodCalls calls) where
       → ((xs : List Landing) (ws1 : Ways) → GoodWays ws1 → Good (k xs ws1)) → Good (ready_all around calls ls ws env k)
   good_ready_all [] ws env k s h = h [] ws s
   good_ready_all (l ∷ ls) ws env k s h =
-      good_ready l ws env _ s (λ x. good_ready_all ls (holding_all ws (landing_values x)) env _ (good_holding_all ws _ s) (λ xs ws1 s1. h (x ∷ xs) ws1 s1))
+      good_ready l ws env _ s (λ x. good_ready_all ls (holding_all ws (landing_values ws.call x)) env _ (good_holding_all ws _ s) (λ xs ws1 s1. h (x ∷ xs) ws1 s1))
 
   good_pieces : (ps : List Piece) (ws : Ways) (env : Env) (k : Then (List (List ℕ))) → GoodWays ws → GoodThen k → Good (pieces around calls ps ws env k)
   good_pieces [] ws env k s h = h []
   good_pieces (text number ∷ ps) ws env k s h = good_pieces ps ws env _ s (λ r. h _)
-  good_pieces (shown t e ∷ ps) ws env k s h = good_ev e ws env _ s (λ v. good_pieces ps (holding ws v) env _ (good_holding ws v s) (λ r. h (shown_bytes v ∷ r)))
+  good_pieces (shown t e ∷ ps) ws env k s h = good_ev e ws env _ s (λ v. good_pieces ps (holding ws e v) env _ (good_holding ws e v s) (λ r. h (shown_bytes v ∷ r)))
 
   good_test : (t : Option Ex) (ws : Ways) (env : Env) (k : Then Value) → GoodWays ws → GoodThen k → Good (test_of around calls t ws env k)
   good_test None ws env k s h = h _
@@ -184,7 +184,7 @@ good_quit ws env at (negsuc n) s = s.panicked at _ env
 
 module _ (around : Setting) (calls : Calls) (gc : GoodCalls calls) (fuel : ℕ) where
   good_begin : (over : Over) (ws : Ways) (env : Env) (k : ℕ → Ways → Env → Go) → GoodWays ws → ((n : ℕ) (ws1 : Ways) (env1 : Env) → GoodWays ws1 → Good (k n ws1 env1)) → Good (begin_range around calls fuel over ws env k)
-  good_begin (over_int e) ws env k s h = good_ev around calls gc e ws env _ s (λ v w. h _ (holding ws v) env (good_holding ws v s) w)
+  good_begin (over_int e) ws env k s h = good_ev around calls gc e ws env _ s (λ v w. h _ (holding ws e v) env (good_holding ws e v s) w)
   good_begin (over_length x) ws env k s h = λ w. h x ws env s w
   good_begin (over_copy site e x) ws env k s h = good_ev around calls gc e ws env _ s (λ v w. h x ws _ s _)
 
@@ -231,7 +231,7 @@ module _ (around : Setting) (calls : Calls) (gc : GoodCalls calls) (fuel : ℕ) 
         (λ n1 env1 w1. h env1 w1) (length w.store - length sites) env w
     good_exec (declare sites) ws env k s h = good_zeros around ws.call sites env k h
     good_exec (update at q op e) ws env k s h =
-        good_aim around calls gc q ws env _ s (λ a. good_settle ws env a _ s (λ spot w. good_ev around calls gc e (holding ws _) env _ (good_holding ws _ s)
+        good_aim around calls gc q ws env _ s (λ a. good_settle ws env a _ s (λ spot w. good_ev around calls gc e (holding (holding_all ws (base_values ws.call a.base)) (read q) _) env _ (good_holding (holding_all ws (base_values ws.call a.base)) (read q) _ (good_holding_all ws (base_values ws.call a.base) s))
         (λ u. good_or_panic ws env at (binary_of op (read_at w spot.variable spot.path) u) (λ x. write_part spot.variable spot.path x (k env)) s (λ x w1. h env (written w1 spot.variable spot.path x))) w))
     good_exec (bump at q op) ws env k s h =
         good_aim around calls gc q ws env _ s (λ a. good_settle ws env a _ s (λ spot w.
@@ -299,19 +299,19 @@ ends_well items p n =
     good_globals (setting_of items p) p.globals _ ((good_call (setting_of items p) p.funcs (suc n)).by p.main [] at_top (λ x. 0) _ good_top (λ rs w. omega arith)) beginning
 
 -- what is shown ends well, too
-abbrev ShowsWell : Outcome Sight Ending → Type 0
+abbrev ShowsWell : Outcome Sight Last → Type 0
 ShowsWell (Gives bytes o) = ShowsWell o
-ShowsWell (Ends e) = IsGood e
+ShowsWell (Ends e) = IsGood e.ending
 ShowsWell Unfinished = ⊤
 
 called : (l : Limits) (calls : List ℕ) (heap f : ℕ) (t : Trace) (n : ℕ) (b : Bool) → ShowsWell (upto n (out l (f ∷ calls) heap t))
-    → ShowsWell (upto n (if b then out l (f ∷ calls) heap t else Run.End (StackLimit (used_by l calls) (l.frame f) l.stack_max)))
+    → ShowsWell (upto n (if b then out l (f ∷ calls) heap t else Run.End (last heap (StackLimit (used_by l calls) (l.frame f) l.stack_max))))
 called l calls heap f t n true h = h
 called l calls heap f t n false h = tt
 
 -- a variable is born, on the heap or not, and there with room or not
 bore : (l : Limits) (calls : List ℕ) (heap k : ℕ) (t : Trace) (n : ℕ) (far room : Bool) → ((words : ℕ) → ShowsWell (upto n (out l calls words t)))
-    → ShowsWell (upto n (if far then (if room then out l calls (heap + k) t else Run.End (HeapLimit heap k l.heap_max)) else out l calls heap t))
+    → ShowsWell (upto n (if far then (if room then out l calls (heap + k) t else Run.End (last heap (HeapLimit heap k l.heap_max))) else out l calls heap t))
 bore l calls heap k t n true true h = h (heap + k)
 bore l calls heap k t n true false h = tt
 bore l calls heap k t n false room h = h heap
@@ -330,10 +330,10 @@ shows_well l calls heap (Note (Born site k) t) n h = bore l calls heap k t n (l.
 shows_well l calls heap (Note (Read v path k) t) n h = shows_well l calls heap t n h
 shows_well l calls heap (Note (Write v path k) t) n h = shows_well l calls heap t n h
 
-exits_well : (o : Outcome Sight Ending) → ShowsWell o → (status : ℕ) → ending_in o ≡ Some (Exit status) → status ≤ 125
+exits_well : (o : Outcome Sight Last) → ShowsWell o → (status : ℕ) → ending_in o ≡ Some (Exit status) → status ≤ 125
 exits_well (Gives bytes o) h status e = exits_well o h status e
 exits_well (Ends x) h status e =
-    let is : x ≡ Exit status = cc in
+    let is : x.ending ≡ Exit status = cc in
     subst IsGood is h
 exits_well Unfinished h status e = cc
 

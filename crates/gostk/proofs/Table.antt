@@ -8,11 +8,11 @@ use Rattle.limits.specs.declared.limits.LimitFault.TheVariants.{StartTooSmall, S
 use Rattle.outside.specs.Causes.{Rose}
 use Rattle.outside.specs.Files.{Content, Call, ReadOf, ReadsAs, Missing, Holds}
 use Rattle.outside.specs.Took.{Took}
-use Rattle.simulation.specs.Outcome.{Outcome, ending_in}
+use Rattle.simulation.specs.Outcome.{Outcome}
 use Rattle.typed_syntax.specs.Syntax.{Program}
 use Rattle.meaning.specs.Trace as source
 use Rattle.meaning.specs.Meaning.{Item}
-use Rattle.meaning.specs.Output.{Sight, output}
+use Rattle.meaning.specs.Output.{Sight, Last, output, ending_in}
 use Rattle.compile.specs.Accepted.{Accepted}
 use Rattle.typed_syntax.specs.Positions.{Position}
 use Rattle.gostk.specs.Answer.{IsStatus, of_run, words_refused as for_words, text_refused as for_text, read_failed as for_reading, write_failed as for_writing, steps_passed as for_steps, heap_passed as for_heap, stack_passed as for_stack, memory_refused as for_memory, status_of, line_of, reason_text, fault_text, panic_line, steps_line, stack_line, heap_line}
@@ -62,7 +62,7 @@ early_end : (p : Program) (b : Bounds) (answers : List Item) (x y : source.Endin
 early_end p b answers x y old new r ends starts e =
     let same = ends.early r y e in
     let is : Some x ≡ Some y = sym (ends.ends r starts) ∙ (ap ending_in (sym same) ∙ e) in
-    (cc, subst (λ (o : Outcome Sight source.Ending). Took old new (output o)) (sym same) (ends.took r starts))
+    (cc, subst (λ (o : Outcome Sight Last). Took old new (output o)) (sym same) (ends.took r starts))
 
 -- what panics, and ends in the sixteenth of the turns, panics so in these
 early_panic : (p : Program) (b : Bounds) (answers : List Item) (text : List ℕ) (y : source.Ending) (old new : Option (List ℕ)) (r : Reading) → PanicsBy p b answers text old new → Begins answers r
@@ -70,7 +70,7 @@ early_panic : (p : Program) (b : Bounds) (answers : List Item) (text : List ℕ)
 early_panic p b answers text y old new r ends starts e =
     let same = ends.early r y e in
     let is : ending_in (all_turns p b r) ≡ Some y = ap ending_in (sym same) ∙ e in
-    (subst (λ (o : Option source.Ending). PanicsWith text o) is (ends.ends r starts), subst (λ (o : Outcome Sight source.Ending). Took old new (output o)) (sym same) (ends.took r starts))
+    (subst (λ (o : Option source.Ending). PanicsWith text o) is (ends.ends r starts), subst (λ (o : Outcome Sight Last). Took old new (output o)) (sym same) (ends.took r starts))
 
 some_none : (x : source.Ending) → Some x ≡ None → ⊥
 some_none x e = cc

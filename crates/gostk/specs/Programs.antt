@@ -3,12 +3,13 @@ use Rattle.std.specs.Prelude.{◌≡◌, ℕ, ◌/◌, ◌<◌, ◌≤◌, List,
 use Rattle.limits.specs.Limits.{Bounds}
 use Rattle.outside.specs.Causes.{Rose}
 use Rattle.outside.specs.Took.{Took, TookPrefix}
-use Rattle.simulation.specs.Outcome.{Outcome, ending_in}
+use Rattle.simulation.specs.Outcome.{Outcome}
 use Rattle.typed_syntax.specs.Syntax.{Program}
 use Rattle.typed_syntax.specs.Positions.{Position}
+use Rattle.frames.specs.Placement.{package_alone}
 use Rattle.meaning.specs.Trace.{Ending, Panic, Fault}
 use Rattle.meaning.specs.Meaning.{Item}
-use Rattle.meaning.specs.Output.{Sight, source, output}
+use Rattle.meaning.specs.Output.{Sight, Last, source, output, ending_in}
 use Rattle.machine.specs.Answers.{AllNumbers, ReadInOrder, HasFrom}
 use Rattle.simulated_code.specs.Correct.{AreNumbers, limits}
 use Rattle.code_runs.specs.Runs.{AsksFor, Between, PrintsInPart, asks_of}
@@ -41,12 +42,12 @@ pub record Begins (answers : List Item) (r : Reading) : Type 0 where
   pub has : HasFrom r 0 answers
 
 -- what the source of a program shows in as many turns as steps are allowed, under the limits of the stack and the heap
-abbrev pub all_turns : Program → Bounds → Reading → Outcome Sight Ending
-all_turns p b r = source r p (limits p b.stack_max b.heap_max) b.steps
+abbrev pub all_turns : Program → Bounds → Reading → Outcome Sight Last
+all_turns p b r = source r p (limits p (package_alone p) b.stack_max b.heap_max) b.steps
 
 -- and in a sixteenth of them, rounded down
-abbrev pub few_turns : Program → Bounds → Reading → Outcome Sight Ending
-few_turns p b r = source r p (limits p b.stack_max b.heap_max) (b.steps / 16)
+abbrev pub few_turns : Program → Bounds → Reading → Outcome Sight Last
+few_turns p b r = source r p (limits p (package_alone p) b.stack_max b.heap_max) (b.steps / 16)
 
 -- within the turns the source ends so, it asks for just the items that came, and out took exactly what it prints; where it
 -- ends in the sixteenth of them already, that is the same run

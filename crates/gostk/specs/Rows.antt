@@ -5,11 +5,10 @@ use Rattle.limits.specs.declared.limits.LimitFault.{LimitFault}
 use Rattle.outside.specs.Causes.{Rose}
 use Rattle.outside.specs.Files.{Content, Call, ReadOf, ReadsAs, Missing, Holds}
 use Rattle.outside.specs.Took.{Took, TookPrefix}
-use Rattle.simulation.specs.Outcome.{ending_in}
 use Rattle.typed_syntax.specs.Syntax.{Program}
 use Rattle.meaning.specs.Trace as source
 use Rattle.meaning.specs.Meaning.{Item}
-use Rattle.meaning.specs.Output.{output}
+use Rattle.meaning.specs.Output.{output, ending_in}
 use Rattle.typed_syntax.specs.Positions.{Position}
 use Rattle.gostk.specs.Answer.{status_of, line_of, reason_text, fault_text, panic_line, limits_line, steps_line, stack_line, heap_line}
 use Rattle.machine.specs.declared.run_state.Panic.{Panic as MachinePanic}

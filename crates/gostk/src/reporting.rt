@@ -117,8 +117,10 @@ fn put_panic<E: Sink>(reason: &Reason, err: &mut E) -> Result<(), Failed>
 
 // Writes the line of a panic that has a number.
 fn put_panic_number<'a, E: Sink>(before: &'a [u8], n: i64, err: &mut E) -> Result<(), Failed>
-    ensures whole { OnOk result (Took (E.taken err.old) (E.taken err.new) (codes "panic: " ++ (before.now ++ (signed_decimal n ++ codes "\n")))) }
-    ensures part { OnErr result (TookPrefix (E.taken err.old) (E.taken err.new) (codes "panic: " ++ (before.now ++ (signed_decimal n ++ codes "\n")))) }
+    ensures whole { OnOk result (Took (E.taken err.old) (E.taken err.new)
+        (codes "panic: " ++ (before.now ++ (signed_decimal n ++ codes "\n")))) }
+    ensures part { OnErr result (TookPrefix (E.taken err.old) (E.taken err.new)
+        (codes "panic: " ++ (before.now ++ (signed_decimal n ++ codes "\n")))) }
     ensures cause { HasCause (E.faults err.old) (E.faults err.new) result }
 {
     put_pieces(
@@ -140,8 +142,10 @@ fn put_panic_numbers<'a, E: Sink>(
     second: i64,
     err: &mut E,
 ) -> Result<(), Failed>
-    ensures whole { OnOk result (Took (E.taken err.old) (E.taken err.new) (panic_line (numbers_text before.now first between.now second))) }
-    ensures part { OnErr result (TookPrefix (E.taken err.old) (E.taken err.new) (panic_line (numbers_text before.now first between.now second))) }
+    ensures whole { OnOk result (Took (E.taken err.old) (E.taken err.new)
+        (panic_line (numbers_text before.now first between.now second))) }
+    ensures part { OnErr result (TookPrefix (E.taken err.old) (E.taken err.new)
+        (panic_line (numbers_text before.now first between.now second))) }
     ensures cause { HasCause (E.faults err.old) (E.faults err.new) result }
 {
     put_pieces(

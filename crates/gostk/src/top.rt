@@ -133,13 +133,17 @@ fn carry_out<'a, F: Files, I: Source, O: Sink>(
     out: &mut O,
 ) -> Answer<'a>
     ensures allowed { Allowed
-        (seen (F.content files.old) (F.failed files.old) (streams (O.taken out.old) (O.faults out.old) (I.left input.old) (I.faults input.old)))
-        (seen (F.content files.new) (F.failed files.new) (streams (O.taken out.new) (O.faults out.new) (I.left input.new) (I.faults input.new)))
+        (seen (F.content files.old) (F.failed files.old)
+        (streams (O.taken out.old) (O.faults out.old) (I.left input.old) (I.faults input.old)))
+        (seen (F.content files.new) (F.failed files.new)
+        (streams (O.taken out.new) (O.faults out.new) (I.left input.new) (I.faults input.new)))
         (texts_of words.now) result }
     ensures contents { (path : List ℕ) → F.content files.new path ≡ F.content files.old path }
     ensures input { (input.new ≡ input.old) ⊎ RunsAsking
-        (seen (F.content files.old) (F.failed files.old) (streams (O.taken out.old) (O.faults out.old) (I.left input.old) (I.faults input.old)))
-        (seen (F.content files.new) (F.failed files.new) (streams (O.taken out.new) (O.faults out.new) (I.left input.new) (I.faults input.new))) (texts_of words.now) }
+        (seen (F.content files.old) (F.failed files.old)
+        (streams (O.taken out.old) (O.faults out.old) (I.left input.old) (I.faults input.old)))
+        (seen (F.content files.new) (F.failed files.new)
+        (streams (O.taken out.new) (O.faults out.new) (I.left input.new) (I.faults input.new))) (texts_of words.now) }
 {
     let Request { file, limits } = match read_words(alloc, words) {
         Ok(request) => request,

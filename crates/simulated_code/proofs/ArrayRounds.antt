@@ -5,7 +5,7 @@ use Rattle.std.specs.Int.{w64, cast_signed}
 use Rattle.std.proofs.lemmas.Int.{to_z_pos}
 use Rattle.typed_syntax.specs.Types.{ints}
 use Rattle.typed_syntax.specs.Value.{int}
-use Rattle.typed_syntax.specs.Frames.{temps_of}
+use Rattle.frames.specs.Frames.{temps_of}
 use Rattle.meaning.specs.Trace.{World}
 use Rattle.meaning.specs.Meaning
 use Rattle.meaning.specs.Meaning.{Env, Go}
@@ -30,18 +30,18 @@ use Rattle.simulated_code.proofs.Leading.{After, after_later}
 abbrev pub indexed_by : List Kept → ℕ → List Kept
 indexed_by held i = held ++ kept ints (int (pos i))
 
-module _ (m : Built) (c : Frame) (calls : List Frame) (x : ℕ) (small : x < 2 ^ 63) (held : List Kept) (h : ℕ) (scope : List ℕ) (test turn behind : ℕ) (hh : length held ≡ h) (room : h + 1 < temps_of m.program c.func)
-    (number : slice_get m.code.instrs test ≡ Some (Const (temp (slots_of m.program c.func) (h + 1)) x))
-    (less : slice_get m.code.instrs (test + 1) ≡ Some (Bin Word.Less (temp (slots_of m.program c.func) (h + 1)) (temp (slots_of m.program c.func) h) (temp (slots_of m.program c.func) (h + 1))))
-    (leave : slice_get m.code.instrs (test + 1 + 1) ≡ Some (JumpZero (temp (slots_of m.program c.func) (h + 1)) behind))
-    (one : slice_get m.code.instrs turn ≡ Some (Const (temp (slots_of m.program c.func) (h + 1)) 1))
-    (add : slice_get m.code.instrs (turn + 1) ≡ Some (Bin Word.Add (temp (slots_of m.program c.func) h) (temp (slots_of m.program c.func) h) (temp (slots_of m.program c.func) (h + 1))))
+module _ (m : Built) (c : Frame) (calls : List Frame) (x : ℕ) (small : x < 2 ^ 63) (held : List Kept) (h : ℕ) (scope : List ℕ) (test turn behind : ℕ) (hh : length held ≡ h) (room : h + 1 < temps_of m.program m.placement c.func)
+    (number : slice_get m.code.instrs test ≡ Some (Const (temp (slots_of m.program m.placement c.func) (h + 1)) x))
+    (less : slice_get m.code.instrs (test + 1) ≡ Some (Bin Word.Less (temp (slots_of m.program m.placement c.func) (h + 1)) (temp (slots_of m.program m.placement c.func) h) (temp (slots_of m.program m.placement c.func) (h + 1))))
+    (leave : slice_get m.code.instrs (test + 1 + 1) ≡ Some (JumpZero (temp (slots_of m.program m.placement c.func) (h + 1)) behind))
+    (one : slice_get m.code.instrs turn ≡ Some (Const (temp (slots_of m.program m.placement c.func) (h + 1)) 1))
+    (add : slice_get m.code.instrs (turn + 1) ≡ Some (Bin Word.Add (temp (slots_of m.program m.placement c.func) h) (temp (slots_of m.program m.placement c.func) h) (temp (slots_of m.program m.placement c.func) (h + 1))))
     (back : slice_get m.code.instrs (turn + 1 + 1) ≡ Some (Jump test)) where
   abbrev index_slot : ℕ
-  index_slot = temp (slots_of m.program c.func) h
+  index_slot = temp (slots_of m.program m.placement c.func) h
 
   abbrev spare_slot : ℕ
-  spare_slot = temp (slots_of m.program c.func) (h + 1)
+  spare_slot = temp (slots_of m.program m.placement c.func) (h + 1)
 
   -- the stores in the round of an index
   abbrev In : ℕ → Env → World → View → Memory → Type 0

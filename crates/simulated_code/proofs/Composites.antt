@@ -13,7 +13,7 @@ use Rattle.value_laws.proofs.Lists
 use Rattle.value_laws.proofs.Parts.{count_of, width_parts, part_is, Split, split_part}
 use Rattle.typed_syntax.specs.Syntax.{Elements, no_elements, element, ascend_from, words_before, words_through}
 use Rattle.typed_syntax.specs.Form.{ElementsFit}
-use Rattle.typed_syntax.specs.Frames.{outgoing_of, temps_of}
+use Rattle.frames.specs.Frames.{outgoing_of, temps_of}
 use Rattle.meaning.specs.Trace.{World, Trace}
 use Rattle.machine.specs.Machine.{put_words, words_at}
 use Rattle.program_code.specs.Code.{temp, slots_of, zeros as zeros_code, gap_code, gap_size}
@@ -184,11 +184,11 @@ module _ (m : Built) where
         subst (λ ks. Stands m v w (hold c ks ∷ calls) s) (append_assoc held (take (part_offset t i) (kept t x)) (kept (part_type t i) y) ∙ ap (λ ks. held ++ ks) (kept_through t x y i l ix iy)) g
 
     -- zeros after it
-    pub up_to_zeros : (h n more : ℕ) (s : Memory) → length held ≡ h → n + more ≤ width t → h + width t ≤ temps_of m.program c.func → ((j : ℕ) → n ≤ j → j < n + more → StandsFor v.homes s.hi w (leaf t j) (get_or (contents x) j nothing) 0)
-        → UpTo n s → UpTo (n + more) (puts s (temp (slots_of m.program c.func) (h + n)) (replicate more 0))
+    pub up_to_zeros : (h n more : ℕ) (s : Memory) → length held ≡ h → n + more ≤ width t → h + width t ≤ temps_of m.program m.placement c.func → ((j : ℕ) → n ≤ j → j < n + more → StandsFor v.homes s.hi w (leaf t j) (get_or (contents x) j nothing) 0)
+        → UpTo n s → UpTo (n + more) (puts s (temp (slots_of m.program m.placement c.func) (h + n)) (replicate more 0))
     up_to_zeros h n more s hh le room zeros g =
-        subst (λ ks. Stands m v w (hold c ks ∷ calls) (puts s (temp (slots_of m.program c.func) (h + n)) (replicate more 0))) (append_assoc held (take n (kept t x)) (take more (drop n (kept t x))) ∙ ap (λ ks. held ++ ks) (sym (take-add n more (kept t x))))
-        (good_more m.program m.max v w (hold c (held ++ take n (kept t x))) calls s (h + n) (take more (drop n (kept t x))) (replicate more 0) (omega (arith, up_to_wide n (omega arith), hh)) (length-replicate more 0 ∙ sym count) (omega (arith, count)) each g)
+        subst (λ ks. Stands m v w (hold c ks ∷ calls) (puts s (temp (slots_of m.program m.placement c.func) (h + n)) (replicate more 0))) (append_assoc held (take n (kept t x)) (take more (drop n (kept t x))) ∙ ap (λ ks. held ++ ks) (sym (take-add n more (kept t x))))
+        (good_more m.program m.placement m.max v w (hold c (held ++ take n (kept t x))) calls s (h + n) (take more (drop n (kept t x))) (replicate more 0) (omega (arith, up_to_wide n (omega arith), hh)) (length-replicate more 0 ∙ sym count) (omega (arith, count)) each g)
       where
         count : length (take more (drop n (kept t x))) ≡ more
         count = length-take-le more (drop n (kept t x)) (omega (arith, kept_length t x, length-drop n (kept t x)))
@@ -201,17 +201,17 @@ module _ (m : Built) where
             (subst (λ u. StandsFor v.homes s.hi w (leaf t (n + i)) (get_or (contents x) (n + i) nothing) u) (sym (all_zero more i)) (zeros (n + i) (omega arith) (omega arith)))
 
   -- the words between a part and the next element are zeroed again
-  pub gap_follows : (c : Frame) (calls : List Frame) (v : View) (w : World) (held : List Kept) (t : TypeTree) (x : Value) (h from to pc lo b : ℕ) (rest : Trace) → length held ≡ h → from ≤ to → to ≤ width t → h + width t ≤ temps_of m.program c.func
-      → ((j : ℕ) (hi : ℕ) → from ≤ j → j < to → StandsFor v.homes hi w (leaf t j) (get_or (contents x) j nothing) 0) → Standing m.code c.fn pc (gap_code (to - from) (temp (slots_of m.program c.func) (h + from)))
+  pub gap_follows : (c : Frame) (calls : List Frame) (v : View) (w : World) (held : List Kept) (t : TypeTree) (x : Value) (h from to pc lo b : ℕ) (rest : Trace) → length held ≡ h → from ≤ to → to ≤ width t → h + width t ≤ temps_of m.program m.placement c.func
+      → ((j : ℕ) (hi : ℕ) → from ≤ j → j < to → StandsFor v.homes hi w (leaf t j) (get_or (contents x) j nothing) 0) → Standing m.code c.fn pc (gap_code (to - from) (temp (slots_of m.program m.placement c.func) (h + from)))
       → At m lo 0 b v rest (UpTo c calls v w held t x to) (pc + gap_size (to - from)) → At m (suc lo) 0 b v rest (UpTo c calls v w held t x from) pc
   gap_follows c calls v w held t x h from to pc lo b rest hh le inside room zeros has post = by (to - from) refl has post
     where
-      by : (gap : ℕ) → gap ≡ to - from → Standing m.code c.fn pc (gap_code gap (temp (slots_of m.program c.func) (h + from))) → At m lo 0 b v rest (UpTo c calls v w held t x to) (pc + gap_size gap) → At m (suc lo) 0 b v rest (UpTo c calls v w held t x from) pc
+      by : (gap : ℕ) → gap ≡ to - from → Standing m.code c.fn pc (gap_code gap (temp (slots_of m.program m.placement c.func) (h + from))) → At m lo 0 b v rest (UpTo c calls v w held t x to) (pc + gap_size gap) → At m (suc lo) 0 b v rest (UpTo c calls v w held t x from) pc
       by zero e has post =
           let same : to ≡ from = omega arith in let q : pc + 0 ≡ pc = omega arith in
           later m {lo = lo} {hi = 0} {b = b} (omega arith) (omega arith) (omega arith) (place_is m q (subst (λ n. At m lo 0 b v rest (UpTo c calls v w held t x n) (pc + 0)) same post))
       by (suc k) e has post =
-          let more : to ≡ from + suc k = omega arith in let there = temp (slots_of m.program c.func) (h + from) in
+          let more : to ≡ from + suc k = omega arith in let there = temp (slots_of m.program m.placement c.func) (h + from) in
           later m {lo = suc lo} {hi = 1} {b = b} (omega arith) (omega arith) (omega arith)
           (stepped m {lo = lo} {hi = 0} (zeros_code (suc k) there) (λ s. puts s there (replicate (suc k) 0)) has.0.0
           (λ s g. (
@@ -234,22 +234,22 @@ module _ (m : Built) where
     wide = width (part_type t i)
 
     abbrev slot : ℕ
-    slot = temp (slots_of m.program c.func) (h + from)
+    slot = temp (slots_of m.program m.placement c.func) (h + from)
 
     abbrev deep : ℕ
-    deep = depth m.program (c ∷ calls)
+    deep = depth m.program m.placement (c ∷ calls)
 
     many : length xs ≡ wide
     many = stand.long ∙ leaves_length (part_type t i)
 
-    room : h + width t ≤ temps_of m.program c.func
+    room : h + width t ≤ temps_of m.program m.placement c.func
     room = let r = g.homed.owned.0.room in omega (arith, length-append held (kept t x), kept_length t x)
 
     ends : from + wide ≤ width t
     ends = part_within t i l
 
     below : Stands m v w (hold c held ∷ calls) (puts s slot xs)
-    below = let r = room in let e = ends in good_free m.program m.max v w (hold c held) calls s slot xs (inl (omega arith, omega (arith, many))) (fewer m v w c calls s held (kept t x) g)
+    below = let r = room in let e = ends in good_free m.program m.placement m.max v w (hold c held) calls s slot xs (inl (omega arith, omega (arith, many))) (fewer m v w c calls s held (kept t x) g)
 
     -- a word that stands where the value is
     now : (j : ℕ) → j < width t → StandsFor v.homes s.hi w (leaf t j) (get_or (contents new) j nothing) (word_at (put_words s.words slot xs) (deep - (outgoing_of m.program c.func + (h + j))))
@@ -271,9 +271,9 @@ module _ (m : Built) where
             (sym (put_same s.words slot xs k (deep - (outgoing_of m.program c.func + (h + j))) (omega (arith, many)) (omega (arith, many)) (omega arith))) (stand.each k (omega (arith, leaves_length (part_type t i))))
 
     pub part_put : Stands m v w (hold c (held ++ kept t new) ∷ calls) (puts s slot xs)
-    part_put = good_kept m.program m.max v w (hold c held) calls (puts s slot xs) (held ++ kept t new) (let r = room in omega (arith, length-append held (kept t new), kept_length t new)) each below
+    part_put = good_kept m.program m.placement m.max v w (hold c held) calls (puts s slot xs) (held ++ kept t new) (let r = room in omega (arith, length-append held (kept t new), kept_length t new)) each below
       where
-        each : (j : ℕ) (k : Kept) → j < temps_of m.program c.func → slice_get (held ++ kept t new) j ≡ Some k → StandsKept v.homes s.hi w k (word_at (put_words s.words slot xs) (deep - (outgoing_of m.program c.func + j)))
+        each : (j : ℕ) (k : Kept) → j < temps_of m.program m.placement c.func → slice_get (held ++ kept t new) j ≡ Some k → StandsKept v.homes s.hi w k (word_at (put_words s.words slot xs) (deep - (outgoing_of m.program c.func + j)))
         each j k lt e = elim (append_cases held (kept t new) k j e) [
           | inl o ↦ below.framed.kept (deep - (outgoing_of m.program c.func + j)) k (inl (j, lt, refl, o))
           | inr (n, q, f) ↦ (
@@ -285,19 +285,19 @@ module _ (m : Built) where
 
   -- a part of a value in temps as words that are read
   module _ (c : Frame) (calls : List Frame) (v : View) (w : World) (s : Memory) (held : List Kept) (h : ℕ) (t : TypeTree) (x : Value) (i : ℕ) (hh : length held ≡ h) (l : i < part_count t) (ix : IsOf t x) (g : Stands m v w (hold c (held ++ kept t x) ∷ calls) s) where
-    pub part_room : temp (slots_of m.program c.func) (h + part_offset t i) + width (part_type t i) ≤ length s.words
+    pub part_room : temp (slots_of m.program m.placement c.func) (h + part_offset t i) + width (part_type t i) ≤ length s.words
     part_room = let r = g.homed.owned.0.room in let u = g.sized.used in let e = part_within t i l in omega (arith, length-append held (kept t x), kept_length t x)
 
-    pub part_stand : Stand v.homes s.hi w (leaves (part_type t i)) (contents (part x i)) (words_at s.words (temp (slots_of m.program c.func) (h + part_offset t i)) (width (part_type t i)))
+    pub part_stand : Stand v.homes s.hi w (leaves (part_type t i)) (contents (part x i)) (words_at s.words (temp (slots_of m.program m.placement c.func) (h + part_offset t i)) (width (part_type t i)))
     part_stand =
-        let n = width (part_type t i) in let from = temp (slots_of m.program c.func) (h + part_offset t i) in let e = part_within t i l in
+        let n = width (part_type t i) in let from = temp (slots_of m.program m.placement c.func) (h + part_offset t i) in let e = part_within t i l in
         record {
           long = read_length s.words from n part_room ∙ sym (leaves_length (part_type t i));
           each = λ j lt1.
               let lt : j < n = subst (λ z. j < z) (leaves_length (part_type t i)) lt1 in let at = part_offset t i + j in
               let there : slice_get (held ++ kept t x) (h + at) ≡ Some (word (leaf t at) (get_or (contents x) at nothing)) = ap (λ k. slice_get (held ++ kept t x) (k + at)) (sym hh) ∙ append_new held (kept t x) at ∙ keeps_at (leaves t) (contents x) at (omega (arith, leaves_length t)) in
-              let q : temp (slots_of m.program c.func) (h + at) ≡ from + j = omega arith in
-              stands_same v.homes s.hi w (leaf t at) (leaf (part_type t i) j) (get_or (contents x) at nothing) (get_or (contents (part x i)) j nothing) (slice_index s.words (temp (slots_of m.program c.func) (h + at))) (slice_index (words_at s.words from n) j)
+              let q : temp (slots_of m.program m.placement c.func) (h + at) ≡ from + j = omega arith in
+              stands_same v.homes s.hi w (leaf t at) (leaf (part_type t i) j) (get_or (contents x) at nothing) (get_or (contents (part x i)) j nothing) (slice_index s.words (temp (slots_of m.program m.placement c.func) (h + at))) (slice_index (words_at s.words from n) j)
               (part_word t i j l lt) (sym (part_words t x i j l ix lt)) (ap (slice_index s.words) q ∙ sym (read_index s.words from n j lt))
-              (kept_word m.program m.max v w (hold c (held ++ kept t x)) calls s (h + at) (word (leaf t at) (get_or (contents x) at nothing)) there g);
+              (kept_word m.program m.placement m.max v w (hold c (held ++ kept t x)) calls s (h + at) (word (leaf t at) (get_or (contents x) at nothing)) there g);
         }

@@ -2,7 +2,7 @@
 use Rattle.std.proofs.Common.{◌≡◌, ◌≢◌, inr, ℕ, suc, ◌+◌, ◌-◌, ◌<◌, ◌≤◌, List, [], ◌∷◌, length, Option, Some, None, refl, sym, ap, ◌∙◌, subst, arith}
 use Rattle.typed_syntax.specs.Value.{Value, IsOf}
 use Rattle.typed_syntax.specs.Form.{AreOf, ParamsFit, named_params, params_scope}
-use Rattle.typed_syntax.specs.Frames.{frame_of}
+use Rattle.frames.specs.Frames.{frame_of}
 use Rattle.meaning.specs.Trace.{World, Cell}
 use Rattle.meaning.specs.Store.{born}
 use Rattle.meaning.specs.Meaning
@@ -23,7 +23,7 @@ use Rattle.state_relation.proofs.Leaves.{leaves_length}
 use Rattle.state_relation.proofs.Relation.{site_inside, Later}
 use Rattle.state_relation.proofs.Changes.{not_at_some, born_old}
 use Rattle.state_relation.proofs.Built.{Built}
-use Rattle.state_relation.proofs.Rules.{At, Stands, place_is, given, turned, frame_here, argument_by}
+use Rattle.state_relation.proofs.Rules.{At, Stands, place_is, given, turned, frame_here, argument_by, stays_here}
 use Rattle.state_relation.proofs.Calls.{Passing, passing_above}
 use Rattle.simulated_code.proofs.Standing.{Standing}
 use Rattle.simulated_code.proofs.Moves.{room_of, passing_first, passing_rest, passing_kept}
@@ -39,14 +39,14 @@ born_later homes n d w y e = record {
 module _ (m : Built) (around : Setting) (sites_are : around.sites ≡ m.program.sites) (c : Frame) (calls : List Frame) where
   -- the incoming words of one more argument
   incoming : (ps : List Frame) (v : View) (w : World) (c0 : Frame) (s : Memory) (t : TypeTree) (x : Value) (i : ℕ) → 0 < width t → i + width t ≤ room_of m ps → Stands m v w (c0 ∷ ps) s → Passing m v w ps (leaves t) (contents x) i s
-      → Stand v.homes s.hi w (leaves t) (contents x) (words_at s.words (frame_of m.program c0.func + i) (width t)) × (frame_of m.program c0.func + i + width t ≤ length s.words)
+      → Stand v.homes s.hi w (leaves t) (contents x) (words_at s.words (frame_of m.program m.placement c0.func + i) (width t)) × (frame_of m.program m.placement c0.func + i + width t ≤ length s.words)
   incoming [] v w c0 s t x i some room g pass = absurd (omega arith)
   incoming (up ∷ rest) v w c0 s t x i some room g pass = (
-    subst (λ n. Stand v.homes s.hi w (leaves t) (contents x) (words_at s.words (frame_of m.program c0.func + i) n)) (leaves_length t) (passing_above m v w c0 up rest s (leaves t) (contents x) i (omega (arith, leaves_length t)) g pass),
+    subst (λ n. Stand v.homes s.hi w (leaves t) (contents x) (words_at s.words (frame_of m.program m.placement c0.func + i) n)) (leaves_length t) (passing_above m v w c0 up rest s (leaves t) (contents x) i (omega (arith, leaves_length t)) g pass),
     let u = g.sized.used in omega arith,
   )
 
-  pub params_follow : (ps : List (Option ℕ)) (ts : List TypeTree) (vs : List Value) (env : Env) (scope : List ℕ) (entry : ℕ) (k : Env → Go) (v : View) (w : World) (q i pc lo b : ℕ) → AreOf ts vs → Standing m.code c.fn pc (params_code (slots_of m.program c.func) (each_width ts) ps i) → ParamsFit m.program q ts ps
+  pub params_follow : (ps : List (Option ℕ)) (ts : List TypeTree) (vs : List Value) (env : Env) (scope : List ℕ) (entry : ℕ) (k : Env → Go) (v : View) (w : World) (q i pc lo b : ℕ) → AreOf ts vs → Standing m.code c.fn pc (params_code (slots_of m.program m.placement c.func) (each_width ts) ps i) → ParamsFit m.program q ts ps
       → c.func.first ≤ q → q + named_params ps ≤ c.func.first + c.func.count → i + all_width ts ≤ room_of m calls
       → ((env1 : Env) (w1 : World) (v1 : View) → At m lo 0 b v1 (k env1 w1) (Stands m v1 w1 (during c env1 (params_scope scope ps) [] ∷ calls)) (pc + params_size ps))
       → At m lo 0 b v (Meaning.bear_params around entry ps vs env k w) (λ s. Stands m v w (during c env scope [] ∷ calls) s × Passing m v w calls (all_leaves ts) (contents_of vs) i s) pc
@@ -59,10 +59,10 @@ module _ (m : Built) (around : Setting) (sites_are : around.sites ≡ m.program.
       given m (λ s g. (g.0, passing_rest m v w calls (leaves t) (all_leaves ts) (contents x) (contents_of vs) i (width t) s (count_of t x typed.0 ∙ sym (leaves_length t)) (sym (leaves_length t)) g.1))
       (params_follow ps ts vs env scope entry k v w q (i + width t) pc lo b typed.1 has fit from to (omega arith) post)
   params_follow (Some site ∷ ps) (t ∷ ts) (x ∷ vs) env scope entry k v w q i pc lo b typed has fit from to room post =
-      let s = slots_of m.program c.func in let fr = frame_of m.program c.func in let c0 = during c env scope [] in
+      let s = slots_of m.program m.placement c.func in let fr = frame_of m.program m.placement c.func in let c0 = during c env scope [] in
       let n = width t in let same : width (site_type m.program site) ≡ n = ap width fit.1 in let solid = m.solid site in
-      let cell = Meaning.new_cell around entry site x in let kind = cell_kind m around sites_are site in
-      let here = fit.0 in let d = depth m.program (c0 ∷ calls) - site_slot s site in
+      let cell = Meaning.new_cell entry site (Meaning.site_type around site) x in let kind = cell_kind m around sites_are site in
+      let here = fit.0 in let d = depth m.program m.placement (c0 ∷ calls) - site_slot s site in
       let long = count_of t x typed.0 ∙ sym (leaves_length t) in
       let first = λ (u : Memory) (g : Stands m v w (c0 ∷ calls) u × Passing m v w calls (all_leaves (t ∷ ts)) (contents_of (x ∷ vs)) i u).
       incoming calls v w c0 u t x i (omega arith) (omega arith) g.0 (passing_first m v w calls (leaves t) (all_leaves ts) (contents x) (contents_of vs) i u long g.1) in
@@ -75,7 +75,7 @@ module _ (m : Built) (around : Setting) (sites_are : around.sites ≡ m.program.
       (λ u g k1. (
         k1,
         passing_kept m v (after_stack v d) w (born w cell) calls (all_leaves ts) (contents_of vs) (i + n) u (puts u (site_slot s site) (words_at u.words (fr + i) n)) (born_later v.homes v.births d w cell g.0.homed.births) refl
-            (λ e le. let inside = site_inside m.program c.func site (omega arith) (omega arith) in let put = (first u g).0.long in let used = g.0.sized.used in
+            (λ e le. let inside = site_inside m.program m.placement c.func site (stays_here m c0 calls v w u site (omega arith) (omega arith) g.0) (omega arith) (omega arith) in let put = (first u g).0.long in let used = g.0.sized.used in
             put_other u.words (site_slot s site) (words_at u.words (fr + i) n) e (omega (arith, put, leaves_length t, inside.1)) (inr (omega (arith, put, leaves_length t, inside.1))))
             (passing_rest m v w calls (leaves t) (all_leaves ts) (contents x) (contents_of vs) i n u long (sym (leaves_length t)) g.1),
       ))

@@ -1,5 +1,5 @@
 -- The machine follows an operator on two operands, of one word each or of several where they are compared.
-use Rattle.std.proofs.Common.{◌≡◌, inl, ℕ, zero, suc, ◌+◌, ◌^◌, ◌<◌, ℤ, Bool, true, false, ◌&&◌, List, [], ◌∷◌, Some, Ok, refl, sym, ap, ◌∙◌, subst, arith, get_or}
+use Rattle.std.proofs.Common.{◌≡◌, inl, ℕ, zero, suc, ◌+◌, ◌^◌, ◌<◌, ℤ, Bool, true, false, ◌&&◌, List, [], ◌∷◌, Some, Ok, refl, sym, ap, ◌∙◌, subst, arith, get_or, length}
 use Rattle.std.specs.Prelude.{Decides, not, nat_eq, slice_get, slice_index}
 use Rattle.std.specs.Cmp.Lexicographic.{pointwise}
 use Rattle.std.specs.Int.{w64, cast_signed}
@@ -124,7 +124,7 @@ differ_is (composite vs) (bool b) = refl
 differ_is (composite vs) (composite us) = refl
 
 module _ (m : Built) (s t : TypeTree) (x y : Value) (ix : IsOf s x) (iy : IsOf s y) (v : View) (w : World) (G : Memory → Type 0) (G1 : Value → Memory → Type 0) (n a c pc lo hi b : ℕ) (count : n ≡ width s) (some : 0 < n)
-    (sx : (u : Memory) → G u → HoldIn (contents x) (words_at u.words a n)) (sy : (u : Memory) → G u → HoldIn (contents y) (words_at u.words c n)) (at : Position) (ws : Ways) (env : Env) (k : Then Value)
+    (sx : (u : Memory) → G u → HoldIn (contents x) (words_at u.words a n)) (sy : (u : Memory) → G u → HoldIn (contents y) (words_at u.words c n)) (heaped : (u : Memory) → G u → length u.heap ≡ v.heap) (at : Position) (ws : Ways) (env : Env) (k : Then Value)
     (keeps : (r : Value) (word : ℕ) (u : Memory) → IsOf t r → Spells r word → G u → G1 r (sets u a word)) (post : (r : Value) → IsOf t r → At m lo hi b v (k r w) (G1 r) (pc + 1)) where
   -- an instruction that tells a truth value
   tells : (i : Instr) (z : Bool) → t ≡ bools → slice_get m.code.instrs pc ≡ Some i → ((u : Memory) → G u → does_at m i pc u ≡ Goes [] (state_of m (pc + 1) (sets u a (bit_of z)))) → At m (suc lo) 1 b v (k (bool z) w) G pc
@@ -165,7 +165,7 @@ module _ (m : Built) (s t : TypeTree) (x y : Value) (ix : IsOf s x) (iy : IsOf s
       by (suc (suc i)) q here = tells (Differ a a c (suc (suc i))) (not (same x y)) e here (λ u g. ap (λ z. Goes [] (state_of m (pc + 1) (sets u a (bit_of (not z))))) (subst (λ j. same_words u.words a c j ≡ same x y) (sym q) (several u g)))
 
   on_words : (o : BinOp) → IsPlain s → Takes o s t → Panics ws → slice_get m.code.instrs pc ≡ Some (Bin (operation o) a a c) → At m (suc lo) 1 b v (Meaning.or_panic ws env at (binary_of o x y) k w) G pc
-  on_words o plain takes stops here = operates m at o s t x y ws env k v w G G1 a a c pc lo hi b here stops plain takes ix iy (λ u g. (first_stands x u.words a (sx u g) ix, first_stands y u.words c (sy u g) iy)) keeps post
+  on_words o plain takes stops here = operates m at o s t x y ws env k v w G G1 a a c pc lo hi b here stops plain takes ix iy heaped (λ u g. (first_stands x u.words a (sx u g) ix, first_stands y u.words c (sy u g) iy)) keeps post
 
   pub both_operate : (o : BinOp) → Takes o s t → Panics ws → slice_get m.code.instrs pc ≡ Some (binary_code o n a c) → At m (suc lo) 1 b v (Meaning.or_panic ws env at (binary_of o x y) k w) G pc
   both_operate Equal takes stops here = at_equal takes.1 n refl here

@@ -6,7 +6,7 @@ use Rattle.typed_syntax.specs.Value.{Value, int, bool, IsOf, composite, zero_of}
 use Rattle.typed_syntax.specs.Syntax.{Pl, Steps, local, global, here as itself, inner, at_index, type_in, type_named, site_type, global_type, Ex, Exs, Piece, Func, Program, constant, read, unary, binary, logical_and, logical_or, call, part_of, literal, Elements, no_elements, element, none, more, results, read_int, text, shown, wide, ascend_from, ascend, words_before, words_through, gap_behind}
 use Rattle.value_laws.proofs.Parts.{words_count, count_of, part_is, with_part_is}
 use Rattle.typed_syntax.specs.Form.{IsPlain, AreOf, IsWord, PlFits, StepsLead, ExFits, ExsFit, ElementsFit, PiecesFit}
-use Rattle.typed_syntax.specs.Frames.{far, place_need, steps_need, place_reach, steps_reach, need, need_all, elements_need, need_pieces, reach, reach_all, elements_reach, reach_pieces, outgoing_of, temps_of}
+use Rattle.frames.specs.Frames.{far, place_need, steps_need, place_reach, steps_reach, need, need_all, elements_need, need_pieces, reach, reach_all, elements_reach, reach_pieces, outgoing_of, temps_of}
 use Rattle.meaning.specs.Trace.{World, Asked, Turn, Note}
 use Rattle.meaning.specs.Operators.{unary_of}
 use Rattle.meaning.specs.Meaning
@@ -128,58 +128,58 @@ module _ (m : Built) where
     truth_post t e c calls k pc lo b post x w1 v1 ix = subst (λ z. At m (suc lo) 0 b v1 (k x w1) (Stands m v1 w1 (hold c (c.held ++ kept z x) ∷ calls)) pc) e (post x w1 v1 (subst (λ z. IsOf z x) (sym e) ix))
 
     -- after the first operand of `&&`, and of `||`, which is in its temp; where it decides, the turn has an instruction to spare
-    both_end : (x : Value) (g : Go) (c : Frame) (calls : List Frame) (ws : Ways) (k : Then Value) (v : View) (w : World) (h goal pc lo b : ℕ) → slice_get m.code.instrs pc ≡ Some (JumpZero (temp (slots_of m.program c.func) h) goal)
+    both_end : (whole : Ex) (x : Value) (g : Go) (c : Frame) (calls : List Frame) (ws : Ways) (k : Then Value) (v : View) (w : World) (h goal pc lo b : ℕ) → slice_get m.code.instrs pc ≡ Some (JumpZero (temp (slots_of m.program m.placement c.func) h) goal)
         → length c.held ≡ h → IsOf bools x → At m lo 0 b v (g w) (Stands m v w (c ∷ calls)) (pc + 1) → At m (suc lo) 0 b v (k (bool false) w) (Stands m v w (hold c (c.held ++ kept bools (bool false)) ∷ calls)) goal
-        → At m lo 0 b v (Turn (Meaning.branch x g (Meaning.give ws k (bool false)) w)) (Stands m v w (hold c (c.held ++ kept bools x) ∷ calls)) pc
-    both_end (bool true) g c calls ws k v w h goal pc lo b here hh is on off =
-        let a = temp (slots_of m.program c.func) h in
+        → At m lo 0 b v (Turn (Meaning.branch x g (Meaning.give ws whole k (bool false)) w)) (Stands m v w (hold c (c.held ++ kept bools x) ∷ calls)) pc
+    both_end whole (bool true) g c calls ws k v w h goal pc lo b here hh is on off =
+        let a = temp (slots_of m.program m.placement c.func) h in
         turned m {lo1 = suc lo} (omega arith) (goes_on m {lo = lo} a goal here (λ u s. (last_word m v w c calls u c.held bools (bool true) h hh refl s, fewer m v w c calls u c.held (kept bools (bool true)) s)) on)
-    both_end (bool false) g c calls ws k v w h goal pc lo b here hh is on off =
-        let a = temp (slots_of m.program c.func) h in
+    both_end whole (bool false) g c calls ws k v w h goal pc lo b here hh is on off =
+        let a = temp (slots_of m.program m.placement c.func) h in
         turned m {lo1 = suc (suc lo)} (omega arith) (goes_to m {lo = suc lo} a goal here (λ u s. (last_word m v w c calls u c.held bools (bool false) h hh refl s, s)) (seen m _ off))
-    both_end x g c calls ws k v w h goal pc lo b here hh is on off = absurd is
+    both_end whole x g c calls ws k v w h goal pc lo b here hh is on off = absurd is
 
-    either_end : (x : Value) (g : Go) (c : Frame) (calls : List Frame) (ws : Ways) (k : Then Value) (v : View) (w : World) (h goal end pc lo b : ℕ) → slice_get m.code.instrs pc ≡ Some (JumpZero (temp (slots_of m.program c.func) h) goal) → slice_get m.code.instrs (pc + 1) ≡ Some (Jump end)
+    either_end : (whole : Ex) (x : Value) (g : Go) (c : Frame) (calls : List Frame) (ws : Ways) (k : Then Value) (v : View) (w : World) (h goal end pc lo b : ℕ) → slice_get m.code.instrs pc ≡ Some (JumpZero (temp (slots_of m.program m.placement c.func) h) goal) → slice_get m.code.instrs (pc + 1) ≡ Some (Jump end)
         → length c.held ≡ h → IsOf bools x → At m lo 0 b v (g w) (Stands m v w (c ∷ calls)) goal → At m (suc lo) 0 b v (k (bool true) w) (Stands m v w (hold c (c.held ++ kept bools (bool true)) ∷ calls)) end
-        → At m lo 0 b v (Turn (Meaning.branch x (Meaning.give ws k (bool true)) g w)) (Stands m v w (hold c (c.held ++ kept bools x) ∷ calls)) pc
-    either_end (bool false) g c calls ws k v w h goal end pc lo b here jump hh is off on =
-        let a = temp (slots_of m.program c.func) h in
+        → At m lo 0 b v (Turn (Meaning.branch x (Meaning.give ws whole k (bool true)) g w)) (Stands m v w (hold c (c.held ++ kept bools x) ∷ calls)) pc
+    either_end whole (bool false) g c calls ws k v w h goal end pc lo b here jump hh is off on =
+        let a = temp (slots_of m.program m.placement c.func) h in
         turned m {lo1 = suc lo} (omega arith) (goes_to m {lo = lo} a goal here (λ u s. (last_word m v w c calls u c.held bools (bool false) h hh refl s, fewer m v w c calls u c.held (kept bools (bool false)) s)) off)
-    either_end (bool true) g c calls ws k v w h goal end pc lo b here jump hh is off on =
-        let a = temp (slots_of m.program c.func) h in
+    either_end whole (bool true) g c calls ws k v w h goal end pc lo b here jump hh is off on =
+        let a = temp (slots_of m.program m.placement c.func) h in
         turned m {lo1 = suc (suc (suc lo))} (omega arith) (goes_on m {lo = suc (suc lo)} {hi = 1} a goal here (λ u s. (last_word m v w c calls u c.held bools (bool true) h hh refl s, s))
         (stepped m {lo = suc lo} {hi = 0} (Jump end) (λ u. u) jump (λ u s. (refl, refl, s)) (seen m _ on)))
-    either_end x g c calls ws k v w h goal end pc lo b here jump hh is off on = absurd is
+    either_end whole x g c calls ws k v w h goal end pc lo b here jump hh is off on = absurd is
 
     -- an item of the input: its number and its truth value go to two temps
-    item_read : (c : Frame) (calls : List Frame) (ws : Ways) (k : Then (List Value)) (v : View) (w : World) (h pc lo b : ℕ) → length c.held ≡ h → Standing m.code c.fn pc (ReadInt (temp (slots_of m.program c.func) h) ∷ []) → h + 2 ≤ temps_of m.program c.func
+    item_read : (c : Frame) (calls : List Frame) (ws : Ways) (k : Then (List Value)) (v : View) (w : World) (h pc lo b : ℕ) → length c.held ≡ h → Standing m.code c.fn pc (ReadInt (temp (slots_of m.program m.placement c.func) h) ∷ []) → h + 2 ≤ temps_of m.program m.placement c.func
         → ((vs : List Value) (w1 : World) → AreOf (ints ∷ bools ∷ []) vs → At m lo 0 b v (k vs w1) (Stands m v w1 (hold c (c.held ++ all_kept (ints ∷ bools ∷ []) vs) ∷ calls)) (pc + 1))
-        → At m lo 0 b v (Meaning.turn (Meaning.ask around (Meaning.give_all ws k)) w) (Stands m v w (c ∷ calls)) pc
+        → At m lo 0 b v (Meaning.turn (Meaning.ask around (Meaning.give_all ws read_int k)) w) (Stands m v w (c ∷ calls)) pc
     item_read c calls ws k v w h pc lo b hh has room post =
-        let a = temp (slots_of m.program c.func) h in let item = m.items w.reads in
+        let a = temp (slots_of m.program m.placement c.func) h in let item = m.items w.reads in
         let w1 : World = record { store = w.store; reads = suc w.reads } in
-        subst (λ (items : ℕ → Item). At m lo 0 b v (Turn (Note Asked (Meaning.give_all ws k (Meaning.item_values (items w.reads)) w1))) (Stands m v w (c ∷ calls)) pc) (sym inputs)
+        subst (λ (items : ℕ → Item). At m lo 0 b v (Turn (Note Asked (Meaning.give_all ws read_int k (Meaning.item_values (items w.reads)) w1))) (Stands m v w (c ∷ calls)) pc) (sym inputs)
         (turned m {lo1 = suc lo} (omega arith) (asking m {lo = lo} {hi = 0} (ReadInt a) (λ s. record (puts s a (item_words item)) { reads = suc w.reads }) has.0.0
         (λ s g. (
           ap (λ n. Machine.reads_item (record (state_of m pc s) { reads = n }) a (m.items n)) g.sized.asked,
           refl,
           values_put m v w1 c calls (record s { reads = suc w.reads }) h (ints ∷ bools ∷ []) (Meaning.item_values item) (item_words item) hh room
               (hold_stand v.homes s.hi w1 (all_leaves (ints ∷ bools ∷ [])) (contents_of (Meaning.item_values item)) (item_words item) (all_fit (ints ∷ bools ∷ []) (Meaning.item_values item) (item_types item)) (item_holds item (m.numbers w.reads)))
-              (good_read m.program m.max v w (c ∷ calls) s (suc w.reads) g),
+              (good_read m.program m.placement m.max v w (c ∷ calls) s (suc w.reads) g),
         )) (seen m _ (post (Meaning.item_values item) w1 (item_types item)))))
 
     mutual
       -- the last turn of an evaluation has an instruction to spare, for what a literal does with an element
-      pub ev_pays : (e : Ex) (t : TypeTree) (c : Frame) (calls : List Frame) (ws : Ways) (k : Then Value) (v : View) (w : World) (h pc lo b : ℕ) → b ≤ suc n → length c.held ≡ h → Panics ws → Standing m.code c.fn pc (ex_code m.program (slots_of m.program c.func) e h pc)
-          → ExFits m.program c.scope t e → h + need m.program e ≤ temps_of m.program c.func → reach m.program e ≤ outgoing_of m.program c.func
+      pub ev_pays : (e : Ex) (t : TypeTree) (c : Frame) (calls : List Frame) (ws : Ways) (k : Then Value) (v : View) (w : World) (h pc lo b : ℕ) → b ≤ suc n → length c.held ≡ h → Panics ws → Standing m.code c.fn pc (ex_code m.program (slots_of m.program m.placement c.func) e h pc)
+          → ExFits m.program c.scope t e → h + need m.program e ≤ temps_of m.program m.placement c.func → reach m.program e ≤ outgoing_of m.program c.func
           → ((x : Value) (w1 : World) (v1 : View) → IsOf t x → At m (suc lo) 0 b v1 (k x w1) (Stands m v1 w1 (hold c (c.held ++ kept t x) ∷ calls)) (pc + size m.program e))
           → At m lo 0 b v (Meaning.ev around callees e ws c.env k w) (Stands m v w (c ∷ calls)) pc
       ev_pays (constant x) t c calls ws k v w h pc lo b le hh stops has fit enough reaches post =
-          let s = slots_of m.program c.func in let one = word_one x fit.1 in let count = words_count x in
+          let s = slots_of m.program m.placement c.func in let one = word_one x fit.1 in let count = words_count x in
           turned m {lo1 = suc (suc lo)} (omega arith) (seen m _ (stepped m {lo = suc lo} {hi = 0} (Const (temp s h) (word_of x)) (λ u. sets u (temp s h) (word_of x)) has.0.0
           (λ u g. (refl, refl, temp_set m v w c calls u h (word_of x) t x hh (omega arith) fit.0 (sym (count_of t x fit.0) ∙ one) (word_spells x fit.1) g)) (post x w v fit.0)))
       ev_pays (read q) t c calls ws k v w h pc lo b le hh stops has fit enough reaches post =
-          let s = slots_of m.program c.func in let at = place_above q h in let behind = place_size m.program q 0 in
+          let s = slots_of m.program m.placement c.func in let at = place_above q h in let behind = place_size m.program q 0 in
           let cp = place_code m.program s q h pc in let ca = address_code s q h at in let fetch = fetch_code s q at h in
           let has_r = back m.code c.fn pc behind cp (ca ++ fetch ∷ []) (length_place m.program s q h pc) has in
           let has_f = back m.code c.fn (pc + behind) (address_size q) ca (fetch ∷ []) (length_address s q h at) has_r in
@@ -195,7 +195,7 @@ module _ (m : Built) where
           (λ i f. ap (λ l. slice_get l at) (sym (append_assoc c.held (all_kept ops vs) by) ∙ ap (λ l. all ++ l) (sym (append-nil by))) ∙ held_there m (far q) i t _ path _ all [] at above f) hh (omega arith) (λ is.
           place_is m (let e : pc + place_size m.program q (address_size q + 1) ≡ pc + behind + address_size q + 1 = omega (arith, place_sum m.program q (address_size q + 1)) in e) (post _ w1 v1 is))))))))
       ev_pays (unary o a) t c calls ws k v w h pc lo b le hh stops has fit enough reaches post =
-          let s = slots_of m.program c.func in let na = size m.program a in
+          let s = slots_of m.program m.placement c.func in let na = size m.program a in
           let ca = ex_code m.program s a h pc in let i = unary_code o (temp s h) in
           let has_i = back m.code c.fn pc na ca (i ∷ []) (length_code m.program s a h pc) has in
           let plain = takes_one o t fit.0 in let one = plain_one t plain in let some = plain_need c.scope t a plain fit.1 in
@@ -207,44 +207,44 @@ module _ (m : Built) where
           (place_is m (let e : pc + (na + 1) ≡ pc + na + 1 = omega arith in e)
           (post (unary_of o x) w1 v1 (agree u0 g0).0)))))))
       ev_pays (binary at o a d) t c calls ws k v w h pc lo b le hh stops has fit enough reaches post =
-          let s = slots_of m.program c.func in let na = size m.program a in let nd = size m.program d in let n = wide m.program a in
+          let s = slots_of m.program m.placement c.func in let na = size m.program a in let nd = size m.program d in let n = wide m.program a in
           let ca = ex_code m.program s a h pc in let cd = ex_code m.program s d (h + n) (pc + na) in let i = binary_code o n (temp s h) (temp s (h + n)) in
           let has_d = back m.code c.fn pc na ca (cd ++ i ∷ []) (length_code m.program s a h pc) has in
           let has_i = back m.code c.fn (pc + na) nd cd (i ∷ []) (length_code m.program s d (h + n) (pc + na)) has_d in
           let r = fit.0 in let count = wide_is m.program c.scope r a fit.2 in let takes = takes_some o r t fit.1 in
           let some = some_need c.scope r a takes fit.2 in let one = plain_one t (takes_gives o r t fit.1) in
           ev_pays a r c calls ws _ v w h pc lo b le hh stops (front m.code c.fn pc ca (cd ++ i ∷ []) has) fit.2 (omega arith) (omega arith) (λ x w1 v1 ix. spared m (
-          ev_pays d r (hold c (c.held ++ kept r x)) calls (Meaning.holding ws x) _ v1 w1 (h + n) (pc + na) lo b le (one_more c.held r x h n hh count) stops (front m.code c.fn (pc + na) cd (i ∷ []) has_d) fit.3 (omega arith) (omega arith) (λ y w2 v2 iy. spared m (
+          ev_pays d r (hold c (c.held ++ kept r x)) calls (Meaning.holding ws a x) _ v1 w1 (h + n) (pc + na) lo b le (one_more c.held r x h n hh count) stops (front m.code c.fn (pc + na) cd (i ∷ []) has_d) fit.3 (omega arith) (omega arith) (λ y w2 v2 iy. spared m (
           let all = (c.held ++ kept r x) ++ kept r y in
           let under = λ (u : Memory) (g : Stands m v2 w2 (hold c all ∷ calls) u). fewer m v2 w2 c calls u (c.held ++ kept r x) (kept r y) g in
           turned m {lo1 = suc (suc lo)} (omega arith)
           (both_operate m r t x y ix iy v2 w2 (Stands m v2 w2 (hold c all ∷ calls)) (λ z. Stands m v2 w2 (hold c (c.held ++ kept t z) ∷ calls)) n (temp s h) (temp s (h + n)) (pc + na + nd) (suc lo) 0 b count (omega arith)
-          (λ u g. last_hold m v2 w2 c calls u c.held r x h n hh count ix (under u g)) (λ u g. last_hold m v2 w2 c calls u (c.held ++ kept r x) r y (h + n) n (one_more c.held r x h n hh count) count iy g) at ws c.env _
+          (λ u g. last_hold m v2 w2 c calls u c.held r x h n hh count ix (under u g)) (λ u g. last_hold m v2 w2 c calls u (c.held ++ kept r x) r y (h + n) n (one_more c.held r x h n hh count) count iy g) (λ u g. g.sized.heap_used) at ws c.env _
           (λ z word u iz sz g. temp_set m v2 w2 c calls u h word t z hh (omega arith) iz one sz (fewer m v2 w2 c calls u c.held (kept r x) (under u g)))
           (λ z iz. seen m _ (place_is m (let e : pc + (na + nd + 1) ≡ pc + na + nd + 1 = omega arith in e) (post z w2 v2 iz))) o fit.1 stops has_i.0.0)))))
       ev_pays (logical_and a d) t c calls ws k v w h pc lo b le hh stops has fit enough reaches post =
-          let s = slots_of m.program c.func in let na = size m.program a in let nd = size m.program d in
+          let s = slots_of m.program m.placement c.func in let na = size m.program a in let nd = size m.program d in
           let ca = ex_code m.program s a h pc in let cd = ex_code m.program s d h (pc + na + 1) in let i = JumpZero (temp s h) (pc + na + 1 + nd) in
           let has_i = back m.code c.fn pc na ca (i ∷ cd) (length_code m.program s a h pc) has in
           let on = λ (x : Value) (w2 : World) (v2 : View) (ix : IsOf bools x). truth_post t fit.0 c calls k (pc + (na + 1 + nd)) lo b post x w2 v2 ix in
           let e : pc + (na + 1 + nd) ≡ pc + na + 1 + nd = omega arith in
           ev_pays a bools c calls ws _ v w h pc lo b le hh stops (front m.code c.fn pc ca (i ∷ cd) has) fit.1 (omega arith) (omega arith) (λ x w1 v1 ix. spared m (
-          both_end x _ c calls ws k v1 w1 h (pc + na + 1 + nd) (pc + na) lo b has_i.0.0 hh ix
+          both_end (logical_and a d) x _ c calls ws k v1 w1 h (pc + na + 1 + nd) (pc + na) lo b has_i.0.0 hh ix
           (ev_pays d bools c calls ws k v1 w1 h (pc + na + 1) lo b le hh stops has_i.1 fit.2 (omega arith) (omega arith) (λ y w2 v2 iy. place_is m e (on y w2 v2 iy)))
           (place_is m e (on (bool false) w1 v1 tt))))
       ev_pays (logical_or a d) t c calls ws k v w h pc lo b le hh stops has fit enough reaches post =
-          let s = slots_of m.program c.func in let na = size m.program a in let nd = size m.program d in
+          let s = slots_of m.program m.placement c.func in let na = size m.program a in let nd = size m.program d in
           let ca = ex_code m.program s a h pc in let cd = ex_code m.program s d h (pc + na + 2) in let i = JumpZero (temp s h) (pc + na + 2) in let j = Jump (pc + na + 2 + nd) in
           let has_i = back m.code c.fn pc na ca (i ∷ j ∷ cd) (length_code m.program s a h pc) has in
           let e2 : pc + na + 1 + 1 ≡ pc + na + 2 = omega arith in
           let on = λ (x : Value) (w2 : World) (v2 : View) (ix : IsOf bools x). truth_post t fit.0 c calls k (pc + (na + 2 + nd)) lo b post x w2 v2 ix in
           let e : pc + (na + 2 + nd) ≡ pc + na + 2 + nd = omega arith in
           ev_pays a bools c calls ws _ v w h pc lo b le hh stops (front m.code c.fn pc ca (i ∷ j ∷ cd) has) fit.1 (omega arith) (omega arith) (λ x w1 v1 ix. spared m (
-          either_end x _ c calls ws k v1 w1 h (pc + na + 2) (pc + na + 2 + nd) (pc + na) lo b has_i.0.0 has_i.1.0.0 hh ix
+          either_end (logical_or a d) x _ c calls ws k v1 w1 h (pc + na + 2) (pc + na + 2 + nd) (pc + na) lo b has_i.0.0 has_i.1.0.0 hh ix
           (ev_pays d bools c calls ws k v1 w1 h (pc + na + 2) lo b le hh stops (subst (λ p. Standing m.code c.fn p cd) e2 has_i.1.1) fit.2 (omega arith) (omega arith) (λ y w2 v2 iy. place_is m e (on y w2 v2 iy)))
           (place_is m e (on (bool true) w1 v1 tt))))
       ev_pays (call f es) t c calls ws k v w h pc lo b le hh stops has fit enough reaches post =
-          let s = slots_of m.program c.func in let nes = exs_size m.program es in
+          let s = slots_of m.program m.placement c.func in let nes = exs_size m.program es in
           let ces = exs_code m.program s es h pc in
           let has_c = back m.code c.fn pc nes ces (call_code m.program s f h) (length_exs m.program s es h pc) has in
           evs_follow es fit.0.param_types c calls ws _ v w h pc lo b le hh stops (front m.code c.fn pc ces (call_code m.program s f h) has) fit.3 (omega arith) (omega arith) (λ vs w1 v1 are.
@@ -254,7 +254,7 @@ module _ (m : Built) where
           seen m _ (place_is m (let e : pc + (nes + call_size m.program f) ≡ pc + nes + call_size m.program f = omega arith in e)
           (subst (λ l. At m (suc lo) 0 b v2 (k (only_value rs) w2) (Stands m v2 w2 (hold c (c.held ++ l) ∷ calls)) (pc + (nes + call_size m.program f))) (sym same) (post (only_value rs) w2 v2 (only_of t rs one))))))
       ev_pays (part_of number i e) t c calls ws k v w h pc lo b le hh stops has fit enough reaches post =
-          let s = slots_of m.program c.func in let u = type_named m.program number in let ne = size m.program e in let count = width (part_type u i) in
+          let s = slots_of m.program m.placement c.func in let u = type_named m.program number in let ne = size m.program e in let count = width (part_type u i) in
           let ce = ex_code m.program s e h pc in let move = moves count (temp s h) (temp s (h + part_offset u i)) in
           let has_i = back m.code c.fn pc ne ce (move ∷ []) (length_code m.program s e h pc) has in
           ev_pays e u c calls ws _ v w h pc lo b le hh stops (front m.code c.fn pc ce (move ∷ []) has) fit.3 enough reaches (λ x w1 v1 ix. spared m (
@@ -271,28 +271,28 @@ module _ (m : Built) where
           (place_is m (let q : pc + (ne + 1) ≡ pc + ne + 1 = omega arith in q)
           (subst (λ z. At m (suc lo) 0 b v1 (k y w1) (Stands m v1 w1 (hold c (c.held ++ kept z y) ∷ calls)) (pc + (ne + 1))) (sym fit.1) (post y w1 v1 (subst (λ z. IsOf z y) fit.1 iy)))))))))
       ev_pays (literal number es) t c calls ws k v w h pc lo b le hh stops has fit enough reaches post =
-          let s = slots_of m.program c.func in let u = type_named m.program number in let n = width u in let zero = zero_of u in
+          let s = slots_of m.program m.placement c.func in let u = type_named m.program number in let n = width u in let zero = zero_of u in
           let some = subst (λ r. 0 < width r) (sym fit.0) fit.1 in let fitting = subst (λ r. ElementsFit m.program c.scope r es) (sym fit.0) fit.2 in
           let is = zero_is u in let begins = Stands m v w (hold c (c.held ++ kept u zero) ∷ calls) in
           let typed = λ (y : Value) (iy : IsOf u y). subst (λ r. IsOf r y) fit.0 iy in
-          subst (λ (those : List TypeTree). At m lo 0 b v (Turn (Meaning.fill around callees es (zero_of (type_in those number)) ws c.env (Meaning.give ws k) w)) (Stands m v w (c ∷ calls)) pc) (sym types)
+          subst (λ (those : List TypeTree). At m lo 0 b v (Turn (Meaning.fill around callees es (zero_of (type_in those number)) ws c.env (Meaning.give ws (literal number es) k) w)) (Stands m v w (c ∷ calls)) pc) (sym types)
           (turned m {lo1 = suc (suc lo)} (omega arith)
           (later m {lo = suc (suc lo)} {hi = 1} {b = b} (omega arith) (omega arith) (omega arith)
           (words_zeroed m {lo = suc lo} {hi = 0} {G1 = begins} n (temp s h) has.0.0 some
           (λ r g. ((let long = g.sized.used in omega arith), value_put m v w c calls r h u zero (replicate n 0) hh (omega arith) (zero_stands v.homes r.hi w u) g))
-          (elim (ascend es) as (λ (o : Bool). ascend es ≡ o → Standing m.code c.fn (pc + 1) (elements_code m.program s u o es h (pc + 1)) → h + max n (elements_need m.program u o es) ≤ temps_of m.program c.func
-          → ((y : Value) (w1 : World) (v1 : View) → IsOf u y → At m (suc lo) 0 b v1 (Meaning.give ws k y w1) (Stands m v1 w1 (hold c (c.held ++ kept u y) ∷ calls)) (pc + 1 + elements_size m.program u o es))
-          → At m (suc lo) 0 b v (Meaning.fill around callees es zero ws c.env (Meaning.give ws k) w) begins (pc + 1)) [
-            | true ↦ λ order stands room on. given m (up_to_front m c calls v w c.held u zero (words_before u es)) (placed_follow es 0 u zero c c.held calls ws (Meaning.give ws k) v w h (pc + 1) (suc lo) b le hh stops stands order is (λ homes hi w1 j from l. zero_behind homes hi w1 u j l) fitting room reaches on)
-            | false ↦ λ order stands room on. moved_follow es u zero c c.held calls ws (Meaning.give ws k) v w h (pc + 1) (suc lo) b le hh stops stands is fitting room reaches on
+          (elim (ascend es) as (λ (o : Bool). ascend es ≡ o → Standing m.code c.fn (pc + 1) (elements_code m.program s u o es h (pc + 1)) → h + max n (elements_need m.program u o es) ≤ temps_of m.program m.placement c.func
+          → ((y : Value) (w1 : World) (v1 : View) → IsOf u y → At m (suc lo) 0 b v1 (Meaning.give ws (literal number es) k y w1) (Stands m v1 w1 (hold c (c.held ++ kept u y) ∷ calls)) (pc + 1 + elements_size m.program u o es))
+          → At m (suc lo) 0 b v (Meaning.fill around callees es zero ws c.env (Meaning.give ws (literal number es) k) w) begins (pc + 1)) [
+            | true ↦ λ order stands room on. given m (up_to_front m c calls v w c.held u zero (words_before u es)) (placed_follow es 0 u zero c c.held calls ws (Meaning.give ws (literal number es) k) v w h (pc + 1) (suc lo) b le hh stops stands order is (λ homes hi w1 j from l. zero_behind homes hi w1 u j l) fitting room reaches on)
+            | false ↦ λ order stands room on. moved_follow es u zero c c.held calls ws (Meaning.give ws (literal number es) k) v w h (pc + 1) (suc lo) b le hh stops stands is fitting room reaches on
           ] refl has.1 enough (λ y w1 v1 iy.
           seen m _ (place_is m (let q : pc + (1 + elements_size m.program u (ascend es) es) ≡ pc + 1 + elements_size m.program u (ascend es) es = omega arith in q)
           (subst (λ z. At m (suc lo) 0 b v1 (k y w1) (Stands m v1 w1 (hold c (c.held ++ kept z y) ∷ calls)) (pc + (1 + elements_size m.program u (ascend es) es))) (sym fit.0) (post y w1 v1 (typed y iy)))))))))
 
       -- the operands of a place, and room for some words after them
-      pub place_follows : (q : Pl) (t : TypeTree) (behind others : ℕ) (c : Frame) (calls : List Frame) (ws : Ways) (k : Then Aim) (v : View) (w : World) (h pc lo b : ℕ) → b ≤ suc n → length c.held ≡ h → Panics ws → Standing m.code c.fn pc (place_code m.program (slots_of m.program c.func) q h pc)
-          → PlFits m.program c.scope t q → h + place_need m.program q behind ≤ temps_of m.program c.func → place_reach m.program q others ≤ outgoing_of m.program c.func
-          → ((vs : List Value) (w1 : World) (v1 : View) → Operands (steps_of q) vs → length (c.held ++ all_kept (index_types (steps_of q)) vs) ≡ place_above q h → place_above q h + behind ≤ temps_of m.program c.func
+      pub place_follows : (q : Pl) (t : TypeTree) (behind others : ℕ) (c : Frame) (calls : List Frame) (ws : Ways) (k : Then Aim) (v : View) (w : World) (h pc lo b : ℕ) → b ≤ suc n → length c.held ≡ h → Panics ws → Standing m.code c.fn pc (place_code m.program (slots_of m.program m.placement c.func) q h pc)
+          → PlFits m.program c.scope t q → h + place_need m.program q behind ≤ temps_of m.program m.placement c.func → place_reach m.program q others ≤ outgoing_of m.program c.func
+          → ((vs : List Value) (w1 : World) (v1 : View) → Operands (steps_of q) vs → length (c.held ++ all_kept (index_types (steps_of q)) vs) ≡ place_above q h → place_above q h + behind ≤ temps_of m.program m.placement c.func
           → At m lo 0 b v1 (k (aimed c.env q vs) w1) (Stands m v1 w1 (hold c (c.held ++ all_kept (index_types (steps_of q)) vs) ∷ calls)) (pc + place_size m.program q 0))
           → At m lo 0 b v (Meaning.aim around callees q ws c.env k w) (Stands m v w (c ∷ calls)) pc
       place_follows (local site steps) t behind others c calls ws k v w h pc lo b le hh stops has fit enough reaches post =
@@ -300,9 +300,9 @@ module _ (m : Built) where
       place_follows (global g0 steps) t behind others c calls ws k v w h pc lo b le hh stops has fit enough reaches post =
           steps_follow steps (global_type m.program g0) t behind others c calls ws (λ r. k (record { base = Meaning.variable g0; steps = r })) v w h pc lo b le hh stops has fit.1 enough reaches post
 
-      steps_follow : (steps : Steps) (u t : TypeTree) (behind others : ℕ) (c : Frame) (calls : List Frame) (ws : Ways) (k : Then (List Step)) (v : View) (w : World) (h pc lo b : ℕ) → b ≤ suc n → length c.held ≡ h → Panics ws → Standing m.code c.fn pc (steps_code m.program (slots_of m.program c.func) steps h pc)
-          → StepsLead m.program c.scope u steps t → h + steps_need m.program steps behind ≤ temps_of m.program c.func → steps_reach m.program steps others ≤ outgoing_of m.program c.func
-          → ((vs : List Value) (w1 : World) (v1 : View) → Operands steps vs → length (c.held ++ all_kept (index_types steps) vs) ≡ steps_above steps h → steps_above steps h + behind ≤ temps_of m.program c.func
+      steps_follow : (steps : Steps) (u t : TypeTree) (behind others : ℕ) (c : Frame) (calls : List Frame) (ws : Ways) (k : Then (List Step)) (v : View) (w : World) (h pc lo b : ℕ) → b ≤ suc n → length c.held ≡ h → Panics ws → Standing m.code c.fn pc (steps_code m.program (slots_of m.program m.placement c.func) steps h pc)
+          → StepsLead m.program c.scope u steps t → h + steps_need m.program steps behind ≤ temps_of m.program m.placement c.func → steps_reach m.program steps others ≤ outgoing_of m.program c.func
+          → ((vs : List Value) (w1 : World) (v1 : View) → Operands steps vs → length (c.held ++ all_kept (index_types steps) vs) ≡ steps_above steps h → steps_above steps h + behind ≤ temps_of m.program m.placement c.func
           → At m lo 0 b v1 (k (steps_with steps vs) w1) (Stands m v1 w1 (hold c (c.held ++ all_kept (index_types steps) vs) ∷ calls)) (pc + steps_size m.program steps 0))
           → At m lo 0 b v (Meaning.walk around callees steps ws c.env k w) (Stands m v w (c ∷ calls)) pc
       steps_follow itself u t behind others c calls ws k v w h pc lo b le hh stops has fit enough reaches post =
@@ -310,26 +310,26 @@ module _ (m : Built) where
       steps_follow (inner i steps) u t behind others c calls ws k v w h pc lo b le hh stops has fit enough reaches post =
           steps_follow steps (part_type u i) t behind others c calls ws (λ r. k (fixed i ∷ r)) v w h pc lo b le hh stops has fit.1 enough reaches post
       steps_follow (at_index at e x steps) u t behind others c calls ws k v w h pc lo b le hh stops has (r, is, some, index, fit) enough reaches post =
-          let s = slots_of m.program c.func in let ne = size m.program e in
+          let s = slots_of m.program m.placement c.func in let ne = size m.program e in
           let ce = ex_code m.program s e h pc in let cs = steps_code m.program s steps (h + 1) (pc + ne) in
           ev_pays e ints c calls ws _ v w h pc lo b le hh stops (front m.code c.fn pc ce cs has) index (omega arith) (omega arith) (λ y w1 v1 iy. spared m (
-          steps_follow steps r t behind others (hold c (c.held ++ kept ints y)) calls (Meaning.holding ws y) (λ q. k (worked at y x ∷ q)) v1 w1 (h + 1) (pc + ne) lo b le (one_more c.held ints y h 1 hh refl) stops
+          steps_follow steps r t behind others (hold c (c.held ++ kept ints y)) calls (Meaning.holding ws e y) (λ q. k (worked at e y x ∷ q)) v1 w1 (h + 1) (pc + ne) lo b le (one_more c.held ints y h 1 hh refl) stops
           (back m.code c.fn pc ne ce cs (length_code m.program s e h pc) has) fit (omega arith) (omega arith) (λ vs w2 v2 those above room.
           let same = more_kept c.held ints (index_types steps) y vs iy in
           place_is m (let q : pc + (ne + steps_size m.program steps 0) ≡ pc + ne + steps_size m.program steps 0 = omega arith in q)
-          (subst (λ l. At m lo 0 b v2 (k (worked at y x ∷ steps_with steps vs) w2) (Stands m v2 w2 (hold c l ∷ calls)) (pc + (ne + steps_size m.program steps 0))) same
+          (subst (λ l. At m lo 0 b v2 (k (worked at e y x ∷ steps_with steps vs) w2) (Stands m v2 w2 (hold c l ∷ calls)) (pc + (ne + steps_size m.program steps 0))) same
           (post (y ∷ vs) w2 v2 (iy, those) (ap (λ l. length l) same ∙ above) room)))))
 
       -- elements in order: what lies before the first of them stands, and after that the value is zero
       placed_follow : (es : Elements) (first : ℕ) (t : TypeTree) (x : Value) (c : Frame) (held : List Kept) (calls : List Frame) (ws : Ways) (k : Then Value) (v : View) (w : World) (h pc lo b : ℕ) → b ≤ suc n → length held ≡ h → Panics ws
-          → Standing m.code c.fn pc (elements_code m.program (slots_of m.program c.func) t true es h pc) → ascend_from first es ≡ true → IsOf t x → Zeros t x (words_before t es) → ElementsFit m.program c.scope t es
-          → h + max (width t) (elements_need m.program t true es) ≤ temps_of m.program c.func → elements_reach m.program es ≤ outgoing_of m.program c.func
+          → Standing m.code c.fn pc (elements_code m.program (slots_of m.program m.placement c.func) t true es h pc) → ascend_from first es ≡ true → IsOf t x → Zeros t x (words_before t es) → ElementsFit m.program c.scope t es
+          → h + max (width t) (elements_need m.program t true es) ≤ temps_of m.program m.placement c.func → elements_reach m.program es ≤ outgoing_of m.program c.func
           → ((y : Value) (w1 : World) (v1 : View) → IsOf t y → At m lo 0 b v1 (k y w1) (Stands m v1 w1 (hold c (held ++ kept t y) ∷ calls)) (pc + elements_size m.program t true es))
           → At m lo 0 b v (Meaning.fill around callees es x ws c.env k w) (UpTo m c calls v w held t x (words_before t es)) pc
       placed_follow no_elements first t x c held calls ws k v w h pc lo b le hh stops has order ix zeros fit enough reaches post =
           given m (up_to_end m c calls v w held t x) (place_is m (let q : pc + 0 ≡ pc = omega arith in q) (post x w v ix))
       placed_follow (element i e es) first t x c held calls ws k v w h pc lo b le hh stops has order ix zeros fit enough reaches post =
-          let s = slots_of m.program c.func in let u = part_type t i in let here = h + part_offset t i in let ne = size m.program e in let gap = gap_behind t i es in
+          let s = slots_of m.program m.placement c.func in let u = part_type t i in let here = h + part_offset t i in let ne = size m.program e in let gap = gap_behind t i es in
           let next = pc + ne + gap_size gap in
           let front_held = held ++ take (part_offset t i) (kept t x) in
           let ce = ex_code m.program s e here pc in let cg = gap_code gap (temp s (h + words_through t i)) in let rest = elements_code m.program s t true es h next in
@@ -343,19 +343,19 @@ module _ (m : Built) where
           let zero : Zeros t z (words_through t i) = λ homes hi w2 j from l. subst (λ r. StandsFor homes hi w2 (leaf t j) r 0) (sym (behind_part t x y i fit.0 ix iy j from)) (zeros homes hi w2 j (omega arith) l) in
           given m (up_to_part m c calls v1 w1 held t x y i fit.0 ix iy)
           (gap_follows m c calls v1 w1 held t z h (words_through t i) (words_before t es) (pc + ne) lo b _ hh after behind (omega arith) (λ j hi from l. zero v1.homes hi w1 j from (omega arith)) (front m.code c.fn (pc + ne) cg rest has_g)
-          (placed_follow es (suc i) t z c held calls (Meaning.holding ws y) k v1 w1 h next lo b le hh stops has_r (in_order first i e es order).1 iz (λ homes hi w2 j from l. zero homes hi w2 j (omega arith) l) fit.3 (omega arith) (omega arith) (λ r w2 v2 ir.
+          (placed_follow es (suc i) t z c held calls (Meaning.holding ws e y) k v1 w1 h next lo b le hh stops has_r (in_order first i e es order).1 iz (λ homes hi w2 j from l. zero homes hi w2 j (omega arith) l) fit.3 (omega arith) (omega arith) (λ r w2 v2 ir.
           place_is m (let q : pc + (ne + (gap_size gap + elements_size m.program t true es)) ≡ next + elements_size m.program t true es = omega arith in q) (post r w2 v2 ir)))))
 
       -- elements in another order: each is worked out after the value, and its words go to their place
       moved_follow : (es : Elements) (t : TypeTree) (x : Value) (c : Frame) (held : List Kept) (calls : List Frame) (ws : Ways) (k : Then Value) (v : View) (w : World) (h pc lo b : ℕ) → b ≤ suc n → length held ≡ h → Panics ws
-          → Standing m.code c.fn pc (elements_code m.program (slots_of m.program c.func) t false es h pc) → IsOf t x → ElementsFit m.program c.scope t es
-          → h + max (width t) (elements_need m.program t false es) ≤ temps_of m.program c.func → elements_reach m.program es ≤ outgoing_of m.program c.func
+          → Standing m.code c.fn pc (elements_code m.program (slots_of m.program m.placement c.func) t false es h pc) → IsOf t x → ElementsFit m.program c.scope t es
+          → h + max (width t) (elements_need m.program t false es) ≤ temps_of m.program m.placement c.func → elements_reach m.program es ≤ outgoing_of m.program c.func
           → ((y : Value) (w1 : World) (v1 : View) → IsOf t y → At m lo 0 b v1 (k y w1) (Stands m v1 w1 (hold c (held ++ kept t y) ∷ calls)) (pc + elements_size m.program t false es))
           → At m lo 0 b v (Meaning.fill around callees es x ws c.env k w) (Stands m v w (hold c (held ++ kept t x) ∷ calls)) pc
       moved_follow no_elements t x c held calls ws k v w h pc lo b le hh stops has ix fit enough reaches post =
           place_is m (let q : pc + 0 ≡ pc = omega arith in q) (post x w v ix)
       moved_follow (element i e es) t x c held calls ws k v w h pc lo b le hh stops has ix fit enough reaches post =
-          let s = slots_of m.program c.func in let u = part_type t i in let there = h + width t in let ne = size m.program e in let count = width u in
+          let s = slots_of m.program m.placement c.func in let u = part_type t i in let there = h + width t in let ne = size m.program e in let count = width u in
           let from = temp s there in let to = temp s (h + part_offset t i) in
           let ce = ex_code m.program s e there pc in let rest = elements_code m.program s t false es h (pc + ne + 1) in
           let has_m = back m.code c.fn pc ne ce (moves count to from ∷ rest) (length_code m.program s e there pc) has in
@@ -368,11 +368,11 @@ module _ (m : Built) where
             last_room m v1 w1 c calls r (held ++ kept t x) u y there count wide refl g,
             part_put m c calls v1 w1 r (words_at r.words from count) held h t x y i hh fit.0 ix iy (last_stand m v1 w1 c calls r (held ++ kept t x) u y there count wide refl g) (fewer m v1 w1 c calls r (held ++ kept t x) (kept u y) g),
           ))
-          (moved_follow es t (with_part x i y) c held calls (Meaning.holding ws y) k v1 w1 h (pc + ne + 1) lo b le hh stops has_m.1 (with_part_is t x y i ix fit.0 iy) fit.3 (omega arith) (omega arith) (λ z w2 v2 iz.
+          (moved_follow es t (with_part x i y) c held calls (Meaning.holding ws e y) k v1 w1 h (pc + ne + 1) lo b le hh stops has_m.1 (with_part_is t x y i ix fit.0 iy) fit.3 (omega arith) (omega arith) (λ z w2 v2 iz.
           place_is m (let q : pc + (ne + (1 + elements_size m.program t false es)) ≡ pc + ne + 1 + elements_size m.program t false es = omega arith in q) (post z w2 v2 iz)))))
 
-      pub evs_follow : (es : Exs) (ts : List TypeTree) (c : Frame) (calls : List Frame) (ws : Ways) (k : Then (List Value)) (v : View) (w : World) (h pc lo b : ℕ) → b ≤ suc n → length c.held ≡ h → Panics ws → Standing m.code c.fn pc (exs_code m.program (slots_of m.program c.func) es h pc)
-          → ExsFit m.program c.scope ts es → h + need_all m.program es ≤ temps_of m.program c.func → reach_all m.program es ≤ outgoing_of m.program c.func
+      pub evs_follow : (es : Exs) (ts : List TypeTree) (c : Frame) (calls : List Frame) (ws : Ways) (k : Then (List Value)) (v : View) (w : World) (h pc lo b : ℕ) → b ≤ suc n → length c.held ≡ h → Panics ws → Standing m.code c.fn pc (exs_code m.program (slots_of m.program m.placement c.func) es h pc)
+          → ExsFit m.program c.scope ts es → h + need_all m.program es ≤ temps_of m.program m.placement c.func → reach_all m.program es ≤ outgoing_of m.program c.func
           → ((vs : List Value) (w1 : World) (v1 : View) → AreOf ts vs → At m lo 0 b v1 (k vs w1) (Stands m v1 w1 (hold c (c.held ++ all_kept ts vs) ∷ calls)) (pc + exs_size m.program es))
           → At m lo 0 b v (Meaning.evs around callees es ws c.env k w) (Stands m v w (c ∷ calls)) pc
       evs_follow none [] c calls ws k v w h pc lo b le hh stops has fit enough reaches post =
@@ -380,17 +380,17 @@ module _ (m : Built) where
       evs_follow none (t ∷ ts) c calls ws k v w h pc lo b le hh stops has fit enough reaches post = absurd fit
       evs_follow (more e es) [] c calls ws k v w h pc lo b le hh stops has fit enough reaches post = absurd fit
       evs_follow (more e es) (t ∷ ts) c calls ws k v w h pc lo b le hh stops has fit enough reaches post =
-          let s = slots_of m.program c.func in let ne = size m.program e in let nes = exs_size m.program es in
+          let s = slots_of m.program m.placement c.func in let ne = size m.program e in let nes = exs_size m.program es in
           let ce = ex_code m.program s e h pc in let ces = exs_code m.program s es (h + wide m.program e) (pc + ne) in let lw = wide_is m.program c.scope t e fit.0 in
           ev_pays e t c calls ws _ v w h pc lo b le hh stops (front m.code c.fn pc ce ces has) fit.0 (omega arith) (omega arith) (λ x w1 v1 ix. spared m (
-          evs_follow es ts (hold c (c.held ++ kept t x)) calls (Meaning.holding ws x) _ v1 w1 (h + wide m.program e) (pc + ne) lo b le (one_more c.held t x h (wide m.program e) hh lw) stops (back m.code c.fn pc ne ce ces (length_code m.program s e h pc) has) fit.1 (omega arith) (omega arith) (λ vs w2 v2 are.
+          evs_follow es ts (hold c (c.held ++ kept t x)) calls (Meaning.holding ws e x) _ v1 w1 (h + wide m.program e) (pc + ne) lo b le (one_more c.held t x h (wide m.program e) hh lw) stops (back m.code c.fn pc ne ce ces (length_code m.program s e h pc) has) fit.1 (omega arith) (omega arith) (λ vs w2 v2 are.
           place_is m (let q : pc + (ne + nes) ≡ pc + ne + nes = omega arith in q)
           (subst (λ l. At m lo 0 b v2 (k (x ∷ vs) w2) (Stands m v2 w2 (hold c l ∷ calls)) (pc + (ne + nes))) (more_kept c.held t ts x vs ix) (post (x ∷ vs) w2 v2 (ix, are))))))
       evs_follow read_int ts c calls ws k v w h pc lo b le hh stops has fit enough reaches post =
           let two : ts ≡ ints ∷ bools ∷ [] = asked_fits m.program c.scope ts fit in
           item_read c calls ws k v w h pc lo b hh has enough (λ vs w1 are. subst (λ us. At m lo 0 b v (k vs w1) (Stands m v w1 (hold c (c.held ++ all_kept us vs) ∷ calls)) (pc + 1)) two (post vs w1 v (subst (λ us. AreOf us vs) (sym two) are)))
       evs_follow (results f es) ts c calls ws k v w h pc lo b le hh stops has fit enough reaches post =
-          let s = slots_of m.program c.func in let nes = exs_size m.program es in
+          let s = slots_of m.program m.placement c.func in let nes = exs_size m.program es in
           let last = last_fits m.program c.scope ts f es fit in
           let ces = exs_code m.program s es h pc in
           let has_c = back m.code c.fn pc nes ces (call_code m.program s f h) (length_exs m.program s es h pc) has in
@@ -400,8 +400,8 @@ module _ (m : Built) where
           (seen m _ (place_is m (let e : pc + (nes + call_size m.program f) ≡ pc + nes + call_size m.program f = omega arith in e)
           (subst (λ us. At m lo 0 b v2 (k rs w2) (Stands m v2 w2 (hold c (c.held ++ all_kept us rs) ∷ calls)) (pc + (nes + call_size m.program f))) (sym last.2) (post rs w2 v2 (subst (λ us. AreOf us rs) last.2 some)))))))
 
-    pub ev_follows : (e : Ex) (t : TypeTree) (c : Frame) (calls : List Frame) (ws : Ways) (k : Then Value) (v : View) (w : World) (h pc lo b : ℕ) → b ≤ suc n → length c.held ≡ h → Panics ws → Standing m.code c.fn pc (ex_code m.program (slots_of m.program c.func) e h pc)
-        → ExFits m.program c.scope t e → h + need m.program e ≤ temps_of m.program c.func → reach m.program e ≤ outgoing_of m.program c.func
+    pub ev_follows : (e : Ex) (t : TypeTree) (c : Frame) (calls : List Frame) (ws : Ways) (k : Then Value) (v : View) (w : World) (h pc lo b : ℕ) → b ≤ suc n → length c.held ≡ h → Panics ws → Standing m.code c.fn pc (ex_code m.program (slots_of m.program m.placement c.func) e h pc)
+        → ExFits m.program c.scope t e → h + need m.program e ≤ temps_of m.program m.placement c.func → reach m.program e ≤ outgoing_of m.program c.func
         → ((x : Value) (w1 : World) (v1 : View) → IsOf t x → At m lo 0 b v1 (k x w1) (Stands m v1 w1 (hold c (c.held ++ kept t x) ∷ calls)) (pc + size m.program e))
         → At m lo 0 b v (Meaning.ev around callees e ws c.env k w) (Stands m v w (c ∷ calls)) pc
     ev_follows e t c calls ws k v w h pc lo b le hh stops has fit enough reaches post =
@@ -412,8 +412,8 @@ module _ (m : Built) where
     pieces_plain scope (text number ∷ ps) fit = pieces_plain scope ps fit.1
     pieces_plain scope (shown t e ∷ ps) fit = (fit.0.0, pieces_plain scope ps fit.1)
 
-    pub pieces_follow : (ps : List Piece) (c : Frame) (calls : List Frame) (ws : Ways) (k : Then (List (List ℕ))) (v : View) (w : World) (h pc lo b : ℕ) → b ≤ suc n → length c.held ≡ h → Panics ws → Standing m.code c.fn pc (pieces_code m.program (slots_of m.program c.func) ps h pc)
-        → PiecesFit m.program c.scope ps → h + need_pieces m.program ps ≤ temps_of m.program c.func → reach_pieces m.program ps ≤ outgoing_of m.program c.func
+    pub pieces_follow : (ps : List Piece) (c : Frame) (calls : List Frame) (ws : Ways) (k : Then (List (List ℕ))) (v : View) (w : World) (h pc lo b : ℕ) → b ≤ suc n → length c.held ≡ h → Panics ws → Standing m.code c.fn pc (pieces_code m.program (slots_of m.program m.placement c.func) ps h pc)
+        → PiecesFit m.program c.scope ps → h + need_pieces m.program ps ≤ temps_of m.program m.placement c.func → reach_pieces m.program ps ≤ outgoing_of m.program c.func
         → ((vs : List Value) (w1 : World) (v1 : View) → AreOf (piece_types ps) vs → At m lo 0 b v1 (k (texts around.strings ps vs) w1) (Stands m v1 w1 (hold c (c.held ++ all_kept (piece_types ps) vs) ∷ calls)) (pc + pieces_size m.program ps))
         → At m lo 0 b v (Meaning.pieces around callees ps ws c.env k w) (Stands m v w (c ∷ calls)) pc
     pieces_follow [] c calls ws k v w h pc lo b le hh stops has fit enough reaches post =
@@ -422,9 +422,9 @@ module _ (m : Built) where
         let q : pc + pieces_size m.program (text number ∷ ps) ≡ pc + pieces_size m.program ps = omega arith in
         pieces_follow ps c calls ws (λ r. k (get_or around.strings number [] ∷ r)) v w h pc lo b le hh stops has fit.1 enough reaches (λ vs w1 v1 are. place_is m {pc = pc + pieces_size m.program (text number ∷ ps)} q (post vs w1 v1 are))
     pieces_follow (shown t e ∷ ps) c calls ws k v w h pc lo b le hh stops has fit enough reaches post =
-        let s = slots_of m.program c.func in let ne = size m.program e in let nps = pieces_size m.program ps in
+        let s = slots_of m.program m.placement c.func in let ne = size m.program e in let nps = pieces_size m.program ps in
         let ce = ex_code m.program s e h pc in let cps = pieces_code m.program s ps (h + 1) (pc + ne) in
         ev_follows e t c calls ws _ v w h pc lo b le hh stops (front m.code c.fn pc ce cps has) fit.0.1 (omega arith) (omega arith) (λ x w1 v1 ix.
-        pieces_follow ps (hold c (c.held ++ kept t x)) calls (Meaning.holding ws x) _ v1 w1 (h + 1) (pc + ne) lo b le (one_more c.held t x h 1 hh (sym (plain_one t fit.0.0))) stops (back m.code c.fn pc ne ce cps (length_code m.program s e h pc) has) fit.1 (omega arith) (omega arith) (λ vs w2 v2 are.
+        pieces_follow ps (hold c (c.held ++ kept t x)) calls (Meaning.holding ws e x) _ v1 w1 (h + 1) (pc + ne) lo b le (one_more c.held t x h 1 hh (sym (plain_one t fit.0.0))) stops (back m.code c.fn pc ne ce cps (length_code m.program s e h pc) has) fit.1 (omega arith) (omega arith) (λ vs w2 v2 are.
         place_is m (let q : pc + (ne + nps) ≡ pc + ne + nps = omega arith in q)
         (subst (λ l. At m lo 0 b v2 (k (texts around.strings (shown t e ∷ ps) (x ∷ vs)) w2) (Stands m v2 w2 (hold c l ∷ calls)) (pc + (ne + nps))) (more_kept c.held t (piece_types ps) x vs ix) (post (x ∷ vs) w2 v2 (ix, are)))))

@@ -6,7 +6,7 @@ use Rattle.typed_syntax.specs.Types.{TypeTree}
 use Rattle.typed_syntax.specs.Value.{Value}
 use Rattle.typed_syntax.specs.Syntax.{Func, Program, argument_words, result_words, site_type, each_width}
 use Rattle.typed_syntax.specs.Form.{AreOf, InScope, SitesNext, FuncFits, ParamsFit, named_params, scope_with, params_scope, scope_in, body_first, breaks_all, ends_all}
-use Rattle.typed_syntax.specs.Frames.{widest, temps_of}
+use Rattle.frames.specs.Frames.{widest, temps_of}
 use Rattle.meaning.specs.Trace.{World}
 use Rattle.meaning.specs.Meaning
 use Rattle.meaning.specs.Meaning.{Env, Then, Ways, Calls, Setting}
@@ -53,44 +53,44 @@ none_of [] e = tt
 none_of (t ∷ ts) e = absurd (omega arith)
 
 module _ (m : Built) (around : Setting) (strings : around.strings ≡ m.program.strings) (types : around.types ≡ m.program.types) (inputs : around.items ≡ m.items) (sites_are : around.sites ≡ m.program.sites) where
-  no_values : (a : ℕ) (f : Func) → values_code (slots_of m.program f) a 0 f.named 0 ++ leave_code (slots_of m.program f) a f.named ≡ leave_code (slots_of m.program f) a f.named
+  no_values : (a : ℕ) (f : Func) → values_code (slots_of m.program m.placement f) a 0 f.named 0 ++ leave_code (slots_of m.program m.placement f) a f.named ≡ leave_code (slots_of m.program m.placement f) a f.named
   no_values a f = none f.named
     where
-      none : (sites : List ℕ) → values_code (slots_of m.program f) a 0 sites 0 ++ leave_code (slots_of m.program f) a sites ≡ leave_code (slots_of m.program f) a sites
+      none : (sites : List ℕ) → values_code (slots_of m.program m.placement f) a 0 sites 0 ++ leave_code (slots_of m.program m.placement f) a sites ≡ leave_code (slots_of m.program m.placement f) a sites
       none [] = refl
       none (site ∷ sites) = refl
 
   -- a function, from its first instruction
-  module _ (n : ℕ) (callees : Calls) (cf : CallsFollow m callees n) (f : ℕ) (func : Func) (named : slice_get m.program.funcs f ≡ Some func) (place : Placed m.program m.code f func) where
+  module _ (n : ℕ) (callees : Calls) (cf : CallsFollow m callees n) (f : ℕ) (func : Func) (named : slice_get m.program.funcs f ≡ Some func) (place : Placed m.program m.placement m.code f func) where
     fit : FuncFits m.program func
     fit = m.fits f func named
 
-    has : Standing m.code f place.start (func_code m.program func place.start)
-    has = standing m.code f place.start (func_code m.program func place.start) place.stands (λ i l. place.owned i (omega (arith, length_func m.program func place.start)))
+    has : Standing m.code f place.start (func_code m.program m.placement func place.start)
+    has = standing m.code f place.start (func_code m.program m.placement func place.start) place.stands (λ i l. place.owned i (omega (arith, length_func m.program m.placement func place.start)))
 
     abbrev start : ℕ
     start = place.start + entry_size m.program func
 
     abbrev body : List Instr
-    body = sts_code m.program (argument_words func) func.named (slots_of m.program func) func.body 0 0 0 start
+    body = sts_code m.program (argument_words func) func.named (slots_of m.program m.placement func) func.body 0 0 0 start
 
     abbrev ending : List Instr
-    ending = leave_code (slots_of m.program func) (argument_words func) func.named
+    ending = leave_code (slots_of m.program m.placement func) (argument_words func) func.named
 
-    has_entry : Standing m.code f place.start (entry_code m.program func)
-    has_entry = front m.code f place.start (entry_code m.program func) (body ++ ending) has
+    has_entry : Standing m.code f place.start (entry_code m.program m.placement func)
+    has_entry = front m.code f place.start (entry_code m.program m.placement func) (body ++ ending) has
 
-    has_params : Standing m.code f place.start (params_code (slots_of m.program func) (each_width func.param_types) func.params 0)
-    has_params = front m.code f place.start (params_code (slots_of m.program func) (each_width func.param_types) func.params 0) (zeros_code (slots_of m.program func) func.named) has_entry
+    has_params : Standing m.code f place.start (params_code (slots_of m.program m.placement func) (each_width func.param_types) func.params 0)
+    has_params = front m.code f place.start (params_code (slots_of m.program m.placement func) (each_width func.param_types) func.params 0) (zeros_code (slots_of m.program m.placement func) func.named) has_entry
 
-    has_zeros : Standing m.code f (place.start + params_size func.params) (zeros_code (slots_of m.program func) func.named)
-    has_zeros = back m.code f place.start (params_size func.params) (params_code (slots_of m.program func) (each_width func.param_types) func.params 0) (zeros_code (slots_of m.program func) func.named) (length_params (slots_of m.program func) (each_width func.param_types) func.params 0) has_entry
+    has_zeros : Standing m.code f (place.start + params_size func.params) (zeros_code (slots_of m.program m.placement func) func.named)
+    has_zeros = back m.code f place.start (params_size func.params) (params_code (slots_of m.program m.placement func) (each_width func.param_types) func.params 0) (zeros_code (slots_of m.program m.placement func) func.named) (length_params (slots_of m.program m.placement func) (each_width func.param_types) func.params 0) has_entry
 
     has_rest : Standing m.code f start (body ++ ending)
-    has_rest = back m.code f place.start (entry_size m.program func) (entry_code m.program func) (body ++ ending) (length_entry m.program func) has
+    has_rest = back m.code f place.start (entry_size m.program func) (entry_code m.program m.placement func) (body ++ ending) (length_entry m.program m.placement func) has
 
     has_end : Standing m.code f (start + sts_size m.program (argument_words func) func.named func.body) ending
-    has_end = back m.code f start (sts_size m.program (argument_words func) func.named func.body) body ending (length_sts m.program (argument_words func) func.named (slots_of m.program func) func.body 0 0 0 start) has_rest
+    has_end = back m.code f start (sts_size m.program (argument_words func) func.named func.body) body ending (length_sts m.program (argument_words func) func.named (slots_of m.program m.placement func) func.body 0 0 0 start) has_rest
 
     -- where the end of the body is met, there are no results
     no_results : ends_all func.body ≡ false → length func.results ≡ 0
@@ -127,7 +127,7 @@ module _ (m : Built) (around : Setting) (strings : around.strings ≡ m.program.
         (front m.code f start body ending has_rest) fit.body (omega arith) (omega arith) scoped leads
         (λ goes env3 w3 v3. returns [] [] 0 env3 (scope_in func) [] v3 w3 0 (start + sts_size m.program (argument_words func) func.named func.body) refl
         (subst (λ l. Standing m.code f (start + sts_size m.program (argument_words func) func.named func.body) l) (sym (no_values (argument_words func) func)) has_end)
-        (nothing_given goes) (subst (λ l. widest m.program l ≤ temps_of m.program func) (sym (no_sites goes)) (omega arith)) scoped.named))))
+        (nothing_given goes) (subst (λ l. widest m.program l ≤ temps_of m.program m.placement func) (sym (no_sites goes)) (omega arith)) scoped.named))))
       where
         nothing_given : ends_all func.body ≡ false → Given m func 0 [] []
         nothing_given goes = inr (refl, refl, no_names goes ∙ sym (no_results goes))
@@ -142,5 +142,5 @@ module _ (m : Built) (around : Setting) (strings : around.strings ≡ m.program.
         subst (λ o. At m (suc lo) 1 b v (Meaning.run_body around m.program.funcs callees (suc n) f o vs ws env k w) (λ s. Stands m v w (c ∷ calls) s × Passing m v w (c ∷ calls) (all_leaves func.param_types) (contents_of vs) 0 s) pc) (sym named)
         (seen m _ (called m c calls v w f func (all_leaves func.param_types) (contents_of vs) pc lo b _ place named here own (all_leaves_length func.param_types) room
         (body_follows n callees (calls_follow n) f func named place (placed c (pc + 1) ∷ calls) vs ws env k _ w lo b le from stops typed room
-        (λ rs w1 v1 are. given m (λ s g. (good_back m.program m.max v1 w1 c calls s (pc + 1) g.0, g.1)) (post rs w1 v1 are)))));
+        (λ rs w1 v1 are. given m (λ s g. (good_back m.program m.placement m.max v1 w1 c calls s (pc + 1) g.0, g.1)) (post rs w1 v1 are)))));
   }

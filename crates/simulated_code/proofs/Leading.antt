@@ -1,9 +1,9 @@
 -- What follows statements: what stands after them, and where a break, a continue, a return and a panic lead.
 use Rattle.std.proofs.Common.{◌≡◌, ℕ, suc, ◌+◌, ◌≤◌, Bool, true, false, List, ◌∷◌, length, arith}
 use Rattle.typed_syntax.specs.Value.{Value}
-use Rattle.typed_syntax.specs.Syntax.{St, Sts, argument_words}
+use Rattle.typed_syntax.specs.Syntax.{St, Sts, argument_words, Ex}
 use Rattle.typed_syntax.specs.Form.{InScope, scope_after, breaks, breaks_all, ends, ends_all, StFits, StsFit}
-use Rattle.typed_syntax.specs.Frames.{st_need, sts_need, st_reach, sts_reach, outgoing_of, temps_of}
+use Rattle.frames.specs.Frames.{st_need, sts_need, st_reach, sts_reach, outgoing_of, temps_of}
 use Rattle.meaning.specs.Trace.{World}
 use Rattle.meaning.specs.Meaning
 use Rattle.meaning.specs.Meaning.{Env, Go, Ways, Calls, Setting}
@@ -63,16 +63,16 @@ module _ (m : Built) (c : Frame) (calls : List Frame) where
   }
 
   -- a value more is held for the invariants
-  pub leads_holding : {held : List Kept} {looped breaks : Bool} {outer scope : List ℕ} {out again lo b : ℕ} {ws : Ways} (v : Value) → Leads held looped breaks outer scope out again lo b ws → Leads held looped breaks outer scope out again lo b (Meaning.holding ws v)
-  leads_holding v l = record { panics = l.panics; around = l.around; broken = l.broken; continued = l.continued; returned = l.returned }
+  pub leads_holding : {held : List Kept} {looped breaks : Bool} {outer scope : List ℕ} {out again lo b : ℕ} {ws : Ways} (e : Ex) (v : Value) → Leads held looped breaks outer scope out again lo b ws → Leads held looped breaks outer scope out again lo b (Meaning.holding ws e v)
+  leads_holding e v l = record { panics = l.panics; around = l.around; broken = l.broken; continued = l.continued; returned = l.returned }
 
   -- a statement is followed, and statements are, where calls are known
   module _ (around : Setting) (callees : Calls) (n : ℕ) where
     abbrev pub Followed : St → Type 0
     Followed x =
         (ws : Ways) (env : Env) (k : Env → Go) (v : View) (w : World) (held : List Kept) (h : ℕ) (looped : Bool) (outer scope : List ℕ) (q out again pc lo b : ℕ) → b ≤ suc n → length held ≡ h
-        → Standing m.code c.fn pc (st_code m.program (argument_words c.func) c.func.named (slots_of m.program c.func) x h out again pc)
-        → StFits m.program c.func.results (length c.func.named) looped scope q (c.func.first + c.func.count) x → h + st_need m.program c.func.named x ≤ temps_of m.program c.func → st_reach m.program x ≤ outgoing_of m.program c.func
+        → Standing m.code c.fn pc (st_code m.program (argument_words c.func) c.func.named (slots_of m.program m.placement c.func) x h out again pc)
+        → StFits m.program c.func.results (length c.func.named) looped scope q (c.func.first + c.func.count) x → h + st_need m.program c.func.named x ≤ temps_of m.program m.placement c.func → st_reach m.program x ≤ outgoing_of m.program c.func
         → Scoped c.func scope q → Leads held looped (breaks x) outer scope out again lo b ws
         → (ends x ≡ false → After held (scope_after scope x) (pc + st_size m.program (argument_words c.func) c.func.named x) lo b k)
         → At m lo 0 b v (Meaning.exec around callees (suc n) x ws env k w) (Stands m v w (during c env scope held ∷ calls)) pc
@@ -80,8 +80,8 @@ module _ (m : Built) (c : Frame) (calls : List Frame) where
     abbrev pub AllFollowed : Sts → Type 0
     AllFollowed xs =
         (ws : Ways) (env : Env) (k : Env → Go) (v : View) (w : World) (held : List Kept) (h : ℕ) (looped : Bool) (outer scope : List ℕ) (q out again pc lo b : ℕ) → b ≤ suc n → length held ≡ h
-        → Standing m.code c.fn pc (sts_code m.program (argument_words c.func) c.func.named (slots_of m.program c.func) xs h out again pc)
-        → StsFit m.program c.func.results (length c.func.named) looped scope q (c.func.first + c.func.count) xs → h + sts_need m.program c.func.named xs ≤ temps_of m.program c.func → sts_reach m.program xs ≤ outgoing_of m.program c.func
+        → Standing m.code c.fn pc (sts_code m.program (argument_words c.func) c.func.named (slots_of m.program m.placement c.func) xs h out again pc)
+        → StsFit m.program c.func.results (length c.func.named) looped scope q (c.func.first + c.func.count) xs → h + sts_need m.program c.func.named xs ≤ temps_of m.program m.placement c.func → sts_reach m.program xs ≤ outgoing_of m.program c.func
         → Scoped c.func scope q → Leads held looped (breaks_all xs) outer scope out again lo b ws
         → (ends_all xs ≡ false → After held scope (pc + sts_size m.program (argument_words c.func) c.func.named xs) lo b k)
         → At m lo 0 b v (Meaning.exec_all around callees (suc n) xs ws env k w) (Stands m v w (during c env scope held ∷ calls)) pc

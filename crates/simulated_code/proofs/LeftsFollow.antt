@@ -4,7 +4,7 @@ use Rattle.std.specs.Prelude.{slice_get, replicate}
 use Rattle.typed_syntax.specs.Value.{Value, IsOf}
 use Rattle.typed_syntax.specs.Syntax.{Pl, Steps, here as itself, inner, at_index, Left, Program, blank, new, to, local, global, site_type, each_width}
 use Rattle.typed_syntax.specs.Form.{AreOf, InScope, new_sites, AllInScope, PlFits, LeftsFit, SitesNext, NamedFit, scope_behind, scope_with}
-use Rattle.typed_syntax.specs.Frames.{far, lefts_far, widest, temps_of}
+use Rattle.frames.specs.Frames.{far, lefts_far, widest, temps_of}
 use Rattle.meaning.specs.Trace.{World}
 use Rattle.meaning.specs.Store.{value_of, written, born}
 use Rattle.meaning.specs.Meaning
@@ -112,7 +112,7 @@ module _ (m : Built) (around : Setting) (sites_are : around.sites ≡ m.program.
   -- goes to temp `at`, which is free.
   pub lefts_follow : (ls : List Left) (ts : List TypeTree) (vs : List Value) (gone tail all : List Kept) (uss : List (List Value)) (ahead more : List Kept) (c : Frame) (first env : Env) (before scope : List ℕ) (calls : List Frame) (ws : Ways) (k : Env → Go) (v : View) (w : World) (n top at ho h pc lo b : ℕ) → Panics ws
       → AreOf ts vs → length gone ≡ h → all ≡ gone ++ (all_kept ts vs ++ tail) → Gives ls uss → length ahead ≡ ho → all ≡ ahead ++ (all_kept (left_types ls) (together uss) ++ more) → length all ≡ at
-      → Standing m.code c.fn pc (lefts_code (slots_of m.program c.func) (each_width ts) ls ho at h) → LeftsFit m.program before n (c.func.first + c.func.count) ts ls → at + lefts_far ls ≤ temps_of m.program c.func → c.func.first ≤ n → n + new_sites ls ≤ top → Keeping before scope first env n top
+      → Standing m.code c.fn pc (lefts_code (slots_of m.program m.placement c.func) (each_width ts) ls ho at h) → LeftsFit m.program before n (c.func.first + c.func.count) ts ls → at + lefts_far ls ≤ temps_of m.program m.placement c.func → c.func.first ≤ n → n + new_sites ls ≤ top → Keeping before scope first env n top
       → ((env1 : Env) (w1 : World) (v1 : View) → At m lo 0 b v1 (k env1 w1) (Stands m v1 w1 (during c env1 (scope_behind scope ls) all ∷ calls)) (pc + lefts_size ls))
       → At m lo 0 b v (Meaning.land_all around (landings first ls uss) vs ws env k w) (Stands m v w (during c env scope all ∷ calls)) pc
   lefts_follow [] [] vs gone tail all uss ahead more c first env before scope calls ws k v w n top at ho h pc lo b stops are hg e gives hp eo ha has fit room from under keeping post = place_is m (let q : pc + 0 ≡ pc = omega arith in q) (post env w v)
@@ -123,13 +123,13 @@ module _ (m : Built) (around : Setting) (sites_are : around.sites ≡ m.program.
   lefts_follow (blank ∷ ls) (t ∷ ts) (x ∷ vs) gone tail all uss ahead more c first env before scope calls ws k v w n top at ho h pc lo b stops are hg e gives hp eo ha has fit room from under keeping post =
       lefts_follow ls ts vs (gone ++ kept t x) tail all uss ahead more c first env before scope calls ws k v w n top at ho (h + width t) pc lo b stops are.1 (one_more gone t x h (width t) hg refl) (next_held t ts x vs gone tail all are.0 e) gives hp eo ha has fit (omega arith) from under keeping post
   lefts_follow (new site ∷ ls) (t ∷ ts) (x ∷ vs) gone tail all uss ahead more c first env before scope calls ws k v w n top at ho h pc lo b stops are hg e gives hp eo ha has fit room from under keeping post =
-      let s = slots_of m.program c.func in let n1 = width (site_type m.program site) in let c0 = during c env scope all in
+      let s = slots_of m.program m.placement c.func in let n1 = width (site_type m.program site) in let c0 = during c env scope all in
       let same : width (site_type m.program site) ≡ width t = ap width fit.2 in
-      let cell = Meaning.new_cell around ws.call site x in
+      let cell = Meaning.new_cell ws.call site (Meaning.site_type around site) x in
       let here = fit.0 in let among = fit.1 in let solid = m.solid site in
       let kind = cell_kind m around sites_are site in
       let typed : IsOf cell.type x = subst (λ y. IsOf y x) (sym (kind ∙ fit.2)) are.0 in
-      let d = depth m.program (c0 ∷ calls) - site_slot s site in
+      let d = depth m.program m.placement (c0 ∷ calls) - site_slot s site in
       let first_held = λ (u : Memory) (g : Stands m v w (c0 ∷ calls) u). all_first t ts x vs gone tail all c0 calls v w u refl are.0 e g in
       let keeping1 : Keeping before (site ∷ scope) first (with_home env site (length w.store)) (suc n) top =
       λ u i. (inr (keeping u i).0, home_other env site (length w.store) u (λ q. elim (keeping u i).2 [ inl l ↦ absurd (omega arith) | inr l ↦ absurd (omega arith) ]) ∙ (keeping u i).1, elim (keeping u i).2 [ inl l ↦ inl (omega arith) | inr l ↦ inr l ]) in
@@ -142,7 +142,7 @@ module _ (m : Built) (around : Setting) (sites_are : around.sites ≡ m.program.
       (λ env1 w1 v1. place_is m (let q : pc + suc (lefts_size ls) ≡ pc + 1 + lefts_size ls = omega arith in q) (post env1 w1 v1))))
   lefts_follow (to p ∷ ls) (t ∷ ts) (x ∷ vs) gone tail all [] ahead more c first env before scope calls ws k v w n top at ho h pc lo b stops are hg e gives hp eo ha has fit room from under keeping post = absurd gives
   lefts_follow (to p ∷ ls) (t ∷ ts) (x ∷ vs) gone tail all (us ∷ uss) ahead more c first env before scope calls ws k v w n top at ho h pc lo b stops are hg e gives hp eo ha has fit room from under keeping post =
-      let s = slots_of m.program c.func in let above = place_above p ho in let c0 = during c env scope all in
+      let s = slots_of m.program m.placement c.func in let above = place_above p ho in let c0 = during c env scope all in
       let ca = address_code s p ho at in let land = land_code s p at h in let rest = lefts_code s (each_width ts) ls above at (h + width t) in
       let has_l = back m.code c.fn pc (address_size p) ca (land ∷ []) (length_address s p ho at) (front m.code c.fn pc (ca ++ land ∷ []) rest has) in
       let has_r = back m.code c.fn pc (address_size p + 1) (ca ++ land ∷ []) rest (length_write s p ho at h) has in
@@ -167,16 +167,16 @@ module _ (m : Built) (around : Setting) (sites_are : around.sites ≡ m.program.
       (λ env1 w2 v1. place_is m (let q : pc + (address_size p + 1 + lefts_size ls) ≡ pc + address_size p + 1 + lefts_size ls = omega arith in q) (post env1 w2 v1))))))))
 
   -- a new round's variables get the values of the old ones, through temps from h on
-  pub renew_follows : (sites : List ℕ) (c : Frame) (env : Env) (scope : List ℕ) (held : List Kept) (calls : List Frame) (entry : ℕ) (k : Env → Go) (v : View) (w : World) (h pc lo b : ℕ) → length held ≡ h → h + widest m.program sites ≤ temps_of m.program c.func → AllInScope scope sites
-      → Standing m.code c.fn pc (renew_code (slots_of m.program c.func) sites h)
+  pub renew_follows : (sites : List ℕ) (c : Frame) (env : Env) (scope : List ℕ) (held : List Kept) (calls : List Frame) (entry : ℕ) (k : Env → Go) (v : View) (w : World) (h pc lo b : ℕ) → length held ≡ h → h + widest m.program sites ≤ temps_of m.program m.placement c.func → AllInScope scope sites
+      → Standing m.code c.fn pc (renew_code (slots_of m.program m.placement c.func) sites h)
       → ((env1 : Env) (w1 : World) (v1 : View) → At m lo 0 b v1 (k env1 w1) (Stands m v1 w1 (during c env1 scope held ∷ calls)) (pc + renew_size sites))
       → At m lo 0 b v (Meaning.renew around entry sites env k w) (Stands m v w (during c env scope held ∷ calls)) pc
   renew_follows [] c env scope held calls entry k v w h pc lo b hh room among has post = place_is m (let q : pc + 0 ≡ pc = omega arith in q) (post env w v)
   renew_follows (site ∷ sites) c env scope held calls entry k v w h pc lo b hh room among has post =
-      let s = slots_of m.program c.func in let x = value_of w (env site) in let old = during c env scope held in let t = site_type m.program site in
-      let n = width t in let solid = m.solid site in let cell = Meaning.new_cell around entry site x in
+      let s = slots_of m.program m.placement c.func in let x = value_of w (env site) in let old = during c env scope held in let t = site_type m.program site in
+      let n = width t in let solid = m.solid site in let cell = Meaning.new_cell entry site (Meaning.site_type around site) x in
       let kind = cell_kind m around sites_are site in
-      let c1 = during c env scope (held ++ kept t x) in let d = depth m.program (c1 ∷ calls) - site_slot s site in
+      let c1 = during c env scope (held ++ kept t x) in let d = depth m.program m.placement (c1 ∷ calls) - site_slot s site in
       let q : pc + suc (suc (renew_size sites)) ≡ pc + 1 + 1 + renew_size sites = omega arith in
       let env1 = with_home env site (length w.store) in
       knowing m (λ s0 g0.
@@ -188,22 +188,22 @@ module _ (m : Built) (around : Setting) (sites_are : around.sites ≡ m.program.
       (births_at m {lo = lo} {hi = 0} {G1 = Stands m (after_stack v d) (born w cell) (during c env1 scope held ∷ calls)} c1 calls v w site _ (pc + 1) cell (moves n (site_slot s site) (temp s h)) (λ u. words_at u.words (temp s h) n) has.1.0.0 places.0 places.1 kind (subst (λ o. IsOf o x) (sym kind) typed) (λ u g. g)
       (λ u g. moved_by m n (site_slot s site) (temp s h) (pc + 1) u solid (site_room m c1 calls v w u site places.0 places.1 g) (last_room m v w old calls u held t x h n hh refl g))
       (λ u g. subst (λ o. Stand v.homes u.hi w (leaves o) (contents x) (words_at u.words (temp s h) n)) (sym kind) (last_stand m v w old calls u held t x h n hh refl g))
-      (λ u g k. narrowed m.program m.max (after_stack v d) (born w cell) (during c env1 (site ∷ scope) held) calls (puts u (site_slot s site) (words_at u.words (temp s h) n)) env1 (site ∷ scope) scope (λ i j. inr j)
+      (λ u g k. narrowed m.program m.placement m.max (after_stack v d) (born w cell) (during c env1 (site ∷ scope) held) calls (puts u (site_slot s site) (words_at u.words (temp s h) n)) env1 (site ∷ scope) scope (λ i j. inr j)
       (fewer m (after_stack v d) (born w cell) (during c env1 (site ∷ scope) held) calls (puts u (site_slot s site) (words_at u.words (temp s h) n)) held (kept t x) k))
       (renew_follows sites c env1 scope held calls entry k (after_stack v d) (born w cell) h (pc + 1 + 1) lo b hh (omega arith) among.1 has.1.1
       (λ env2 w1 v1. place_is m q (post env2 w1 v1)))))))))
 
   -- new variables with zeros
-  pub zeros_follow : (sites : List ℕ) (c : Frame) (env : Env) (scope : List ℕ) (held : List Kept) (calls : List Frame) (entry : ℕ) (k : Env → Go) (v : View) (w : World) (n pc lo b : ℕ) → Standing m.code c.fn pc (zeros_code (slots_of m.program c.func) sites)
+  pub zeros_follow : (sites : List ℕ) (c : Frame) (env : Env) (scope : List ℕ) (held : List Kept) (calls : List Frame) (entry : ℕ) (k : Env → Go) (v : View) (w : World) (n pc lo b : ℕ) → Standing m.code c.fn pc (zeros_code (slots_of m.program m.placement c.func) sites)
       → SitesNext n (c.func.first + c.func.count) sites → c.func.first ≤ n
       → ((env1 : Env) (w1 : World) (v1 : View) → At m lo 0 b v1 (k env1 w1) (Stands m v1 w1 (during c env1 (scope_with scope sites) held ∷ calls)) (pc + length sites))
       → At m lo 0 b v (Meaning.bear_zeros around entry sites env k w) (Stands m v w (during c env scope held ∷ calls)) pc
   zeros_follow [] c env scope held calls entry k v w n pc lo b has fit from post = place_is m (let e : pc + 0 ≡ pc = omega arith in e) (post env w v)
   zeros_follow (site ∷ sites) c env scope held calls entry k v w n pc lo b has fit from post =
-      let s = slots_of m.program c.func in let c0 = during c env scope held in let t = site_type m.program site in let n1 = width t in
-      let x = Meaning.zero_of around site in let cell = Meaning.new_cell around entry site x in
+      let s = slots_of m.program m.placement c.func in let c0 = during c env scope held in let t = site_type m.program site in let n1 = width t in
+      let x = Meaning.zero_of around site in let cell = Meaning.new_cell entry site (Meaning.site_type around site) x in
       let here = fit.0 in let among = fit.1 in let solid = m.solid site in let kind = cell_kind m around sites_are site in
-      let d = depth m.program (c0 ∷ calls) - site_slot s site in
+      let d = depth m.program m.placement (c0 ∷ calls) - site_slot s site in
       turned m {lo1 = suc lo} (omega arith)
       (births_at m {lo = lo} {hi = 0} {G1 = Stands m (after_stack v d) (born w cell) (grown c0 site (length w.store) ∷ calls)} c0 calls v w site _ pc cell (zeros_at n1 (site_slot s site)) (λ u. replicate n1 0) has.0.0 (omega arith) (omega arith) kind (zero_typed m around sites_are site) (λ u g. g)
       (λ u g. zeroed_by m n1 (site_slot s site) pc u solid (site_room m c0 calls v w u site (omega arith) (omega arith) g))

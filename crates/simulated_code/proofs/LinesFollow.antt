@@ -53,7 +53,7 @@ module _ (m : Built) where
 
   -- one among values that are held
   held_next : (v : View) (w : World) (c : Frame) (calls : List Frame) (before all : List Kept) (t : TypeTree) (ts : List TypeTree) (x : Value) (vs : List Value) (h : ℕ) → IsPlain t → IsOf t x → length before ≡ h → all ≡ before ++ all_kept (t ∷ ts) (x ∷ vs) → (u : Memory) → Stands m v w (hold c all ∷ calls) u
-      → Spells x (slice_index u.words (temp (slots_of m.program c.func) h))
+      → Spells x (slice_index u.words (temp (slots_of m.program m.placement c.func) h))
   held_next v w c calls before all t ts x vs h plain typed hb e u g =
       held_word m v w c calls u before (all_kept ts vs) t x h hb (plain_one t plain) (subst (λ l. Stands m v w (hold c l ∷ calls) u) (e ∙ ap (λ l. before ++ l) (all_kept_first t ts x vs typed)) g)
 
@@ -63,7 +63,7 @@ module _ (m : Built) where
     text_printed number pc lo hi b rest here post =
         printing m {lo = lo} {hi = hi} (PrintText number) (get_or strings number []) here (λ u g. (ap (λ ss. Goes (Printed (get_or ss number []) ∷ []) (state_of m (pc + 1) u)) (m.strings ∙ sym same), g)) post
 
-    more_follows : (ps : List Piece) (vs : List Value) (before all : List Kept) (g : Go) (c : Frame) (calls : List Frame) (v : View) (w : World) (h pc lo b : ℕ) → AllPlain (piece_types ps) → AreOf (piece_types ps) vs → length before ≡ h → all ≡ before ++ all_kept (piece_types ps) vs → Standing m.code c.fn pc (show_more (slots_of m.program c.func) ps h)
+    more_follows : (ps : List Piece) (vs : List Value) (before all : List Kept) (g : Go) (c : Frame) (calls : List Frame) (v : View) (w : World) (h pc lo b : ℕ) → AllPlain (piece_types ps) → AreOf (piece_types ps) vs → length before ≡ h → all ≡ before ++ all_kept (piece_types ps) vs → Standing m.code c.fn pc (show_more (slots_of m.program m.placement c.func) ps h)
         → At m lo 0 b v (g w) (Stands m v w (hold c all ∷ calls)) (pc + more_size ps) → At m lo 0 b v (Meaning.emit_more (texts strings ps vs) g w) (Stands m v w (hold c all ∷ calls)) pc
     more_follows [] vs before all g c calls v w h pc lo b plain are hb e has post =
         turned m {lo1 = suc lo} (omega arith) (printing m {lo = lo} {hi = 0} PrintLine (10 ∷ []) has.0.0 (λ u k. (refl, k)) post)
@@ -76,11 +76,11 @@ module _ (m : Built) where
     more_follows (shown t x ∷ ps) (y ∷ vs) before all g c calls v w h pc lo b plain are hb e has post =
         let q : pc + suc (suc (more_size ps)) ≡ pc + 1 + 1 + more_size ps = omega arith in
         turned m {lo1 = suc (suc lo)} (omega arith) (printing m {lo = suc lo} {hi = 1} PrintSpace (32 ∷ []) has.0.0 (λ u k. (refl, k))
-        (value_printed t y (temp (slots_of m.program c.func) h) (pc + 1) lo 0 b _ plain.0 are.0 has.1.0.0 (held_next v w c calls before all t (piece_types ps) y vs h plain.0 are.0 hb e)
+        (value_printed t y (temp (slots_of m.program m.placement c.func) h) (pc + 1) lo 0 b _ plain.0 are.0 has.1.0.0 (held_next v w c calls before all t (piece_types ps) y vs h plain.0 are.0 hb e)
         (more_follows ps vs (before ++ kept t y) all g c calls v w (h + 1) (pc + 1 + 1) lo b plain.1 are.1 (one_more before t y h 1 hb (sym (plain_one t plain.0))) (e ∙ more_kept before t (piece_types ps) y vs are.0) has.1.1 (place_is m q post))))
 
     -- a line
-    pub line_follows : (ps : List Piece) (vs : List Value) (before all : List Kept) (g : Go) (c : Frame) (calls : List Frame) (v : View) (w : World) (h pc lo b : ℕ) → AllPlain (piece_types ps) → AreOf (piece_types ps) vs → length before ≡ h → all ≡ before ++ all_kept (piece_types ps) vs → Standing m.code c.fn pc (show_line (slots_of m.program c.func) ps h)
+    pub line_follows : (ps : List Piece) (vs : List Value) (before all : List Kept) (g : Go) (c : Frame) (calls : List Frame) (v : View) (w : World) (h pc lo b : ℕ) → AllPlain (piece_types ps) → AreOf (piece_types ps) vs → length before ≡ h → all ≡ before ++ all_kept (piece_types ps) vs → Standing m.code c.fn pc (show_line (slots_of m.program m.placement c.func) ps h)
         → At m lo 0 b v (g w) (Stands m v w (hold c all ∷ calls)) (pc + shown_size true ps) → At m lo 0 b v (Meaning.emit_line (texts strings ps vs) g w) (Stands m v w (hold c all ∷ calls)) pc
     line_follows [] vs before all g c calls v w h pc lo b plain are hb e has post =
         turned m {lo1 = suc lo} (omega arith) (printing m {lo = lo} {hi = 0} PrintLine (10 ∷ []) has.0.0 (λ u k. (refl, k)) post)
@@ -91,11 +91,11 @@ module _ (m : Built) where
     line_follows (shown t x ∷ ps) [] before all g c calls v w h pc lo b plain are hb e has post = absurd are
     line_follows (shown t x ∷ ps) (y ∷ vs) before all g c calls v w h pc lo b plain are hb e has post =
         let q : pc + suc (more_size ps) ≡ pc + 1 + more_size ps = omega arith in
-        turned m {lo1 = suc lo} (omega arith) (value_printed t y (temp (slots_of m.program c.func) h) pc lo 0 b _ plain.0 are.0 has.0.0 (held_next v w c calls before all t (piece_types ps) y vs h plain.0 are.0 hb e)
+        turned m {lo1 = suc lo} (omega arith) (value_printed t y (temp (slots_of m.program m.placement c.func) h) pc lo 0 b _ plain.0 are.0 has.0.0 (held_next v w c calls before all t (piece_types ps) y vs h plain.0 are.0 hb e)
         (more_follows ps vs (before ++ kept t y) all g c calls v w (h + 1) (pc + 1) lo b plain.1 are.1 (one_more before t y h 1 hb (sym (plain_one t plain.0))) (e ∙ more_kept before t (piece_types ps) y vs are.0) has.1 (place_is m q post)))
 
     -- without spaces and a newline
-    pub plain_follows : (ps : List Piece) (vs : List Value) (before all : List Kept) (g : Go) (c : Frame) (calls : List Frame) (v : View) (w : World) (h pc lo b : ℕ) → AllPlain (piece_types ps) → AreOf (piece_types ps) vs → length before ≡ h → all ≡ before ++ all_kept (piece_types ps) vs → Standing m.code c.fn pc (show_plain (slots_of m.program c.func) ps h)
+    pub plain_follows : (ps : List Piece) (vs : List Value) (before all : List Kept) (g : Go) (c : Frame) (calls : List Frame) (v : View) (w : World) (h pc lo b : ℕ) → AllPlain (piece_types ps) → AreOf (piece_types ps) vs → length before ≡ h → all ≡ before ++ all_kept (piece_types ps) vs → Standing m.code c.fn pc (show_plain (slots_of m.program m.placement c.func) ps h)
         → At m lo 0 b v (g w) (Stands m v w (hold c all ∷ calls)) (pc + shown_size false ps) → At m lo 0 b v (Meaning.emit_plain (texts strings ps vs) g w) (Stands m v w (hold c all ∷ calls)) pc
     plain_follows [] vs before all g c calls v w h pc lo b plain are hb e has post = place_is m (let q : pc + 0 ≡ pc = omega arith in q) post
     plain_follows (text number ∷ ps) vs before all g c calls v w h pc lo b plain are hb e has post =
@@ -105,5 +105,5 @@ module _ (m : Built) where
     plain_follows (shown t x ∷ ps) [] before all g c calls v w h pc lo b plain are hb e has post = absurd are
     plain_follows (shown t x ∷ ps) (y ∷ vs) before all g c calls v w h pc lo b plain are hb e has post =
         let q : pc + suc (length ps) ≡ pc + 1 + length ps = omega arith in
-        turned m {lo1 = suc lo} (omega arith) (value_printed t y (temp (slots_of m.program c.func) h) pc lo 0 b _ plain.0 are.0 has.0.0 (held_next v w c calls before all t (piece_types ps) y vs h plain.0 are.0 hb e)
+        turned m {lo1 = suc lo} (omega arith) (value_printed t y (temp (slots_of m.program m.placement c.func) h) pc lo 0 b _ plain.0 are.0 has.0.0 (held_next v w c calls before all t (piece_types ps) y vs h plain.0 are.0 hb e)
         (plain_follows ps vs (before ++ kept t y) all g c calls v w (h + 1) (pc + 1) lo b plain.1 are.1 (one_more before t y h 1 hb (sym (plain_one t plain.0))) (e ∙ more_kept before t (piece_types ps) y vs are.0) has.1 (place_is m q post)))

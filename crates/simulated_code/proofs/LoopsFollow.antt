@@ -4,7 +4,7 @@ use Rattle.std.specs.Prelude.{◌&&◌}
 use Rattle.typed_syntax.specs.Value.{Value, int, IsOf}
 use Rattle.typed_syntax.specs.Syntax.{Ex, Left, St, Sts, blank, new, to, over_int, if_stmt, for_stmt, range, done, next, argument_words}
 use Rattle.typed_syntax.specs.Form.{TestFits, births, births_all, new_sites, scope_behind, scope_after, breaks, breaks_all, ends, ends_all}
-use Rattle.typed_syntax.specs.Frames.{test_need, test_reach, sts_reach, left_far, outgoing_of, temps_of}
+use Rattle.frames.specs.Frames.{test_need, test_reach, sts_reach, left_far, outgoing_of, temps_of}
 use Rattle.meaning.specs.Trace.{World}
 use Rattle.meaning.specs.Meaning
 use Rattle.meaning.specs.Meaning.{Env, Go, Ways, Calls, Setting}
@@ -40,7 +40,7 @@ module _ (m : Built) (around : Setting) (types : around.types ≡ m.program.type
 
   pub next_follows : (x : St) (xs : Sts) → Followed m c calls around callees n x → AllFollowed m c calls around callees n xs → AllFollowed m c calls around callees n (next x xs)
   next_follows x xs one rest ws env k v w held h looped outer scope q out again pc lo b le hh has fit enough reaches sc leads post =
-      let s = slots_of m.program c.func in let fs = m.program in let a = argument_words c.func in let named = c.func.named in
+      let s = slots_of m.program m.placement c.func in let fs = m.program in let a = argument_words c.func in let named = c.func.named in
       let lx = st_size fs a named x in let lxs = sts_size fs a named xs in
       let cx = st_code fs a named s x h out again pc in let cxs = sts_code fs a named s xs h out again (pc + lx) in
       seen m _ (one ws env _ v w held h looped outer scope q out again pc lo b le hh (front m.code c.fn pc cx cxs has) fit.0 (omega arith) (omega arith) sc
@@ -49,11 +49,11 @@ module _ (m : Built) (around : Setting) (types : around.types ≡ m.program.type
       (scoped_after m.program c.func c.func.results (length named) looped (c.func.first + c.func.count) scope q x fit.0 sc)
       (leads_later m c calls {lo = lo} {b = b} (omega arith) (omega arith) (second_or (breaks x) (breaks_all xs)) (after_has scope x) leads)
       (λ go_on env2 w2 v2. place_is m (let e : pc + (lx + lxs) ≡ pc + lx + lxs = omega arith in e)
-      (given m (λ u g. narrowed m.program m.max v2 w2 (hold c held) calls u env2 (scope_after scope x) scope (after_has scope x) g) (post (both_go_on x xs goes go_on) env2 w2 v2)))))
+      (given m (λ u g. narrowed m.program m.placement m.max v2 w2 (hold c held) calls u env2 (scope_after scope x) scope (after_has scope x) g) (post (both_go_on x xs goes go_on) env2 w2 v2)))))
 
   pub choose_follows : (e : Ex) (x y : Sts) → AllFollowed m c calls around callees n x → AllFollowed m c calls around callees n y → Followed m c calls around callees n (if_stmt e x y)
   choose_follows e x y first second ws env k v w held h looped outer scope q out again pc lo b le hh has fit enough reaches sc leads post =
-      let s = slots_of m.program c.func in let fs = m.program in let a = argument_words c.func in let named = c.func.named in
+      let s = slots_of m.program m.placement c.func in let fs = m.program in let a = argument_words c.func in let named = c.func.named in
       let lx = sts_size fs a named x in let ly = sts_size fs a named y in
       let p1 = pc + size fs e + 1 in let p2 = p1 + lx + 1 in
       let ce = ex_code fs s e h pc in let cx = sts_code fs a named s x h out again p1 in let cy = sts_code fs a named s y h out again p2 in
@@ -75,12 +75,12 @@ module _ (m : Built) (around : Setting) (types : around.types ≡ m.program.type
       (λ goes env1 w2 v2. place_is m q2 (post (one_goes_on (ends_all x) (ends_all y) goes) env1 w2 v2))))))
 
   -- a condition, where there is one
-  test_follows : (test : Option Ex) (ws : Ways) (held : List Kept) (scope : List ℕ) (h pc behind lo b : ℕ) → b ≤ suc n → length held ≡ h → Panics ws → Standing m.code c.fn pc (test_code m.program (slots_of m.program c.func) test h pc behind)
-      → TestFits m.program scope test → h + test_need m.program test ≤ temps_of m.program c.func → test_reach m.program test ≤ outgoing_of m.program c.func
+  test_follows : (test : Option Ex) (ws : Ways) (held : List Kept) (scope : List ℕ) (h pc behind lo b : ℕ) → b ≤ suc n → length held ≡ h → Panics ws → Standing m.code c.fn pc (test_code m.program (slots_of m.program m.placement c.func) test h pc behind)
+      → TestFits m.program scope test → h + test_need m.program test ≤ temps_of m.program m.placement c.func → test_reach m.program test ≤ outgoing_of m.program c.func
       → Tests m c calls held scope (tested test) pc (pc + test_size m.program test) behind lo b (Meaning.test_of around callees test ws)
   test_follows None ws held scope h pc behind lo b le hh stops has fit enough reaches env g1 g2 v w d db on off = place_is m (let e : pc + 0 ≡ pc = omega arith in e) (on w v)
   test_follows (Some e) ws held scope h pc behind lo b le hh stops has fit enough reaches env g1 g2 v w d db on off =
-      let s = slots_of m.program c.func in let fs = m.program in
+      let s = slots_of m.program m.placement c.func in let fs = m.program in
       let ce = ex_code fs s e h pc in let z = JumpZero (temp s h) behind in
       let has1 = back m.code c.fn pc (size fs e) ce (z ∷ []) (length_code fs s e h pc) has in
       ev_follows m around types inputs callees n cf e bools (during c env scope held) calls ws _ v w h pc lo d (omega arith) hh stops (front m.code c.fn pc ce (z ∷ []) has) fit enough reaches (λ r w1 v1 ir.
@@ -111,28 +111,28 @@ module _ (m : Built) (around : Setting) (types : around.types ≡ m.program.type
       behind = last + 1
 
       ct : List Instr
-      ct = test_code m.program (slots_of m.program c.func) test h pc behind
+      ct = test_code m.program (slots_of m.program m.placement c.func) test h pc behind
 
       cb : List Instr
-      cb = sts_code m.program (argument_words c.func) c.func.named (slots_of m.program c.func) body h behind turn here
+      cb = sts_code m.program (argument_words c.func) c.func.named (slots_of m.program m.placement c.func) body h behind turn here
 
       cr : List Instr
-      cr = renew_code (slots_of m.program c.func) sites h
+      cr = renew_code (slots_of m.program m.placement c.func) sites h
 
       cp : List Instr
-      cp = sts_code m.program (argument_words c.func) c.func.named (slots_of m.program c.func) after h behind turn then_post
+      cp = sts_code m.program (argument_words c.func) c.func.named (slots_of m.program m.placement c.func) after h behind turn then_post
 
       has_b : Standing m.code c.fn here (cb ++ (cr ++ (cp ++ Jump pc ∷ [])))
-      has_b = back m.code c.fn pc (test_size m.program test) ct (cb ++ (cr ++ (cp ++ Jump pc ∷ []))) (length_test m.program (slots_of m.program c.func) test h pc behind) has
+      has_b = back m.code c.fn pc (test_size m.program test) ct (cb ++ (cr ++ (cp ++ Jump pc ∷ []))) (length_test m.program (slots_of m.program m.placement c.func) test h pc behind) has
 
       has_r : Standing m.code c.fn turn (cr ++ (cp ++ Jump pc ∷ []))
-      has_r = back m.code c.fn here (sts_size m.program (argument_words c.func) c.func.named body) cb (cr ++ (cp ++ Jump pc ∷ [])) (length_sts m.program (argument_words c.func) c.func.named (slots_of m.program c.func) body h behind turn here) has_b
+      has_r = back m.code c.fn here (sts_size m.program (argument_words c.func) c.func.named body) cb (cr ++ (cp ++ Jump pc ∷ [])) (length_sts m.program (argument_words c.func) c.func.named (slots_of m.program m.placement c.func) body h behind turn here) has_b
 
       has_p : Standing m.code c.fn then_post (cp ++ Jump pc ∷ [])
-      has_p = back m.code c.fn turn (renew_size sites) cr (cp ++ Jump pc ∷ []) (length_renew (slots_of m.program c.func) sites h) has_r
+      has_p = back m.code c.fn turn (renew_size sites) cr (cp ++ Jump pc ∷ []) (length_renew (slots_of m.program m.placement c.func) sites h) has_r
 
       has_j : Standing m.code c.fn last (Jump pc ∷ [])
-      has_j = back m.code c.fn then_post (sts_size m.program (argument_words c.func) c.func.named after) cp (Jump pc ∷ []) (length_sts m.program (argument_words c.func) c.func.named (slots_of m.program c.func) after h behind turn then_post) has_p
+      has_j = back m.code c.fn then_post (sts_size m.program (argument_words c.func) c.func.named after) cp (Jump pc ∷ []) (length_sts m.program (argument_words c.func) c.func.named (slots_of m.program m.placement c.func) after h behind turn then_post) has_p
 
       next_of : ℕ → (ℕ → Env → Go) → Env → Go
       next_of u j = Meaning.to_next around u sites (Meaning.exec_all around callees (suc n) after) ws j
@@ -182,34 +182,34 @@ module _ (m : Built) (around : Setting) (types : around.types ≡ m.program.type
       behind = turn + 3
 
       number_slot : ℕ
-      number_slot = temp (slots_of m.program c.func) h
+      number_slot = temp (slots_of m.program m.placement c.func) h
 
       index_slot : ℕ
-      index_slot = temp (slots_of m.program c.func) (h + 1)
+      index_slot = temp (slots_of m.program m.placement c.func) (h + 1)
 
       spare_slot : ℕ
-      spare_slot = temp (slots_of m.program c.func) (h + 2)
+      spare_slot = temp (slots_of m.program m.placement c.func) (h + 2)
 
       ce : List Instr
-      ce = ex_code m.program (slots_of m.program c.func) e h pc
+      ce = ex_code m.program (slots_of m.program m.placement c.func) e h pc
 
       above : ℕ
       above = lefts_above (key ∷ []) (h + 2)
 
       cr : List Instr
-      cr = ready_code m.program (slots_of m.program c.func) (key ∷ []) (h + 2) (test + 2)
+      cr = ready_code m.program (slots_of m.program m.placement c.func) (key ∷ []) (h + 2) (test + 2)
 
       ck : List Instr
-      ck = lefts_code (slots_of m.program c.func) (1 ∷ []) (key ∷ []) (h + 2) above (h + 1)
+      ck = lefts_code (slots_of m.program m.placement c.func) (1 ∷ []) (key ∷ []) (h + 2) above (h + 1)
 
       cl : List Instr
       cl = cr ++ ck
 
       length_cl : length cl ≡ lefts_sized m.program (key ∷ []) (lefts_size (key ∷ []))
-      length_cl = omega (arith, length-append cr ck, length_ready m.program (slots_of m.program c.func) (key ∷ []) (h + 2) (test + 2), length_lefts (slots_of m.program c.func) (1 ∷ []) (key ∷ []) (h + 2) above (h + 1), lefts_sum m.program (key ∷ []) (lefts_size (key ∷ [])))
+      length_cl = omega (arith, length-append cr ck, length_ready m.program (slots_of m.program m.placement c.func) (key ∷ []) (h + 2) (test + 2), length_lefts (slots_of m.program m.placement c.func) (1 ∷ []) (key ∷ []) (h + 2) above (h + 1), lefts_sum m.program (key ∷ []) (lefts_size (key ∷ [])))
 
       cb : List Instr
-      cb = sts_code m.program (argument_words c.func) c.func.named (slots_of m.program c.func) body (h + 2) behind turn here
+      cb = sts_code m.program (argument_words c.func) c.func.named (slots_of m.program m.placement c.func) body (h + 2) behind turn here
 
       counts : List Instr
       counts = Const spare_slot 1 ∷ Bin Word.Add index_slot index_slot spare_slot ∷ Jump test ∷ []
@@ -218,7 +218,7 @@ module _ (m : Built) (around : Setting) (types : around.types ≡ m.program.type
       rest = Const index_slot 0 ∷ (Bin Word.Less spare_slot index_slot number_slot ∷ (JumpZero spare_slot behind ∷ (cl ++ (cb ++ counts))))
 
       has_rest : Standing m.code c.fn (pc + size m.program e) rest
-      has_rest = back m.code c.fn pc (size m.program e) ce rest (length_code m.program (slots_of m.program c.func) e h pc) has
+      has_rest = back m.code c.fn pc (size m.program e) ce rest (length_code m.program (slots_of m.program m.placement c.func) e h pc) has
 
       has_l : Standing m.code c.fn (test + 2) (cl ++ (cb ++ counts))
       has_l = subst (λ p. Standing m.code c.fn p (cl ++ (cb ++ counts))) (let q1 : test + 1 + 1 ≡ test + 2 = omega arith in q1) has_rest.1.1.1
@@ -227,10 +227,10 @@ module _ (m : Built) (around : Setting) (types : around.types ≡ m.program.type
       has_b = back m.code c.fn (test + 2) (lefts_sized m.program (key ∷ []) (lefts_size (key ∷ []))) cl (cb ++ counts) length_cl has_l
 
       has_k : Standing m.code c.fn start ck
-      has_k = back m.code c.fn (test + 2) (lefts_sized m.program (key ∷ []) 0) cr ck (length_ready m.program (slots_of m.program c.func) (key ∷ []) (h + 2) (test + 2)) (front m.code c.fn (test + 2) cl (cb ++ counts) has_l)
+      has_k = back m.code c.fn (test + 2) (lefts_sized m.program (key ∷ []) 0) cr ck (length_ready m.program (slots_of m.program m.placement c.func) (key ∷ []) (h + 2) (test + 2)) (front m.code c.fn (test + 2) cl (cb ++ counts) has_l)
 
       has_c : Standing m.code c.fn turn counts
-      has_c = back m.code c.fn here (sts_size m.program (argument_words c.func) c.func.named body) cb counts (length_sts m.program (argument_words c.func) c.func.named (slots_of m.program c.func) body (h + 2) behind turn here) has_b
+      has_c = back m.code c.fn here (sts_size m.program (argument_words c.func) c.func.named body) cb counts (length_sts m.program (argument_words c.func) c.func.named (slots_of m.program m.placement c.func) body (h + 2) behind turn here) has_b
 
       behind_loop : (u : ℕ) → After m c calls held scope behind lo b (Meaning.outside k u)
       behind_loop u env1 w1 v1 =
@@ -238,7 +238,7 @@ module _ (m : Built) (around : Setting) (types : around.types ≡ m.program.type
 
       -- while the number is held
       ways : ℤ → Ways
-      ways z = Meaning.holding ws (int z)
+      ways z = Meaning.holding ws e (int z)
 
       body_of : ℤ → ℕ → ℕ → Env → (ℕ → Env → Go) → Go
       body_of z = Meaning.index_round around callees (suc n) key (Meaning.exec_all around callees (suc n) body) (ways z) (Meaning.outside k)
@@ -252,12 +252,12 @@ module _ (m : Built) (around : Setting) (types : around.types ≡ m.program.type
           let all = counting z held i in let more = scope_behind scope (key ∷ []) in
           let next = next_follow z i u j d go in
           let cb0 = during c env1 scope all in let land = λ (env2 : Env). Meaning.in_loop (Meaning.exec_all around callees (suc n) body) (ways z) first then_next env2 in
-          let room = key_room m.program (temps_of m.program c.func) h key (omega arith) in
+          let room = key_room m.program (temps_of m.program m.placement c.func) h key (omega arith) in
           place_is m (let q1 : test + 2 ≡ test + 1 + 1 = omega arith in q1)
           (ready_follow m around types inputs callees n cf (key ∷ []) (ints ∷ []) (left_far key) (sts_reach m.program body) q (c.func.first + c.func.count) cb0 calls (ways z) (λ xs ws1. Meaning.land around (first_landing xs) (int (pos i)) (ways z) env1 land) v1 w1 (h + 2) (test + 2) lo d (omega arith) (two_held z held h i hh) leads.panics
           (front m.code c.fn (test + 2) cr ck (front m.code c.fn (test + 2) cl (cb ++ counts) has_l)) fit.1 (omega arith) (omega (arith, key_alone m.program key (sts_reach m.program body))) (λ uss ws1 w2 v2 stops1 gives there.
           let ops = all_kept (left_types (key ∷ [])) (together uss) in
-          let inside_room = lefts_room m.program (temps_of m.program c.func) (h + 2) (left_far key) (key ∷ []) (omega arith) in
+          let inside_room = lefts_room m.program (temps_of m.program m.placement c.func) (h + 2) (left_far key) (key ∷ []) (omega arith) in
           subst (λ t. At m lo 0 d v2 t (Stands m v2 w2 (during c env1 scope (all ++ ops) ∷ calls)) start) (sym (land_one around key uss env1 env1 (int (pos i)) (ways z) land w2 gives))
           (lefts_follow m around sites_are (key ∷ []) (ints ∷ []) (int (pos i) ∷ []) (held ++ kept ints (int z)) ops (all ++ ops) uss all [] c env1 env1 scope scope calls (ways z) land v2 w2 q (q + new_sites (key ∷ [])) above (h + 2) (h + 1) start lo d leads.panics (tt, tt)
           (one_more held ints (int z) h 1 hh refl) (ap (λ l. l ++ ops) (sym (counting_is z held i)) ∙ append_assoc (held ++ kept ints (int z)) (kept ints (int (pos i))) ops) gives (two_held z held h i hh) (ap (λ l. all ++ l) (sym (append-nil ops))) there has_k fit.1 (omega arith) sc.from (omega arith) (λ x y. (y, refl, inl (sc.below x y))) (λ env2 w3 v3.
@@ -265,12 +265,12 @@ module _ (m : Built) (around : Setting) (types : around.types ≡ m.program.type
           (given m (λ x g. fewer m v3 w3 (during c env2 more all) calls x all ops g)
           (bodies (inside m c calls (ways z) first then_next) env2 then_next v3 w3 all (h + 2) true scope more (q + new_sites (key ∷ [])) behind turn here lo d (omega arith) (two_held z held h i hh)
           (front m.code c.fn here cb counts has_b) fit.2 (omega arith) (let others = lefts_others m.program (sts_reach m.program body) (key ∷ []) in omega (arith, key_alone m.program key (sts_reach m.program body))) (scoped_behind m.program c.func scope q (c.func.first + c.func.count) (ints ∷ []) (key ∷ []) fit.1 sc)
-          (leads_inside m c calls first then_next db (behind_has scope (key ∷ [])) (leads_holding m c calls (int z) leads)
+          (leads_inside m c calls first then_next db (behind_has scope (key ∷ [])) (leads_holding m c calls e (int z) leads)
           (λ t env3 w4 v4. given m (λ x g. fewer m v4 w4 (during c env3 scope held) calls x held (kept ints (int z) ++ kept ints (int (pos i))) g) (after_later m c calls held scope behind lo lo b d first (omega arith) db (behind_loop u) env3 w4 v4)) next)
-          (λ goes env3 w4 v4. given m (λ x g. narrowed m.program m.max v4 w4 (hold c all) calls x env3 more scope (behind_has scope (key ∷ [])) g) (next env3 w4 v4))))))))
+          (λ goes env3 w4 v4. given m (λ x g. narrowed m.program m.placement m.max v4 w4 (hold c all) calls x env3 more scope (behind_has scope (key ∷ [])) g) (next env3 w4 v4))))))))
 
       over : (x : Value) (w1 : World) (v1 : View) → IsOf ints x
-          → At m lo 0 b v1 (Meaning.turn (Meaning.births (λ u1. Meaning.counted (suc n) 0 (Meaning.count_of x) (Meaning.index_round around callees (suc n) key (Meaning.exec_all around callees (suc n) body) (Meaning.holding ws x) (Meaning.outside k)) (Meaning.outside k) u1 env)) w1) (Stands m v1 w1 (during c env scope (held ++ kept ints x) ∷ calls)) (pc + size m.program e)
+          → At m lo 0 b v1 (Meaning.turn (Meaning.births (λ u1. Meaning.counted (suc n) 0 (Meaning.count_of x) (Meaning.index_round around callees (suc n) key (Meaning.exec_all around callees (suc n) body) (Meaning.holding ws e x) (Meaning.outside k)) (Meaning.outside k) u1 env)) w1) (Stands m v1 w1 (during c env scope (held ++ kept ints x) ∷ calls)) (pc + size m.program e)
       over (int z) w1 v1 ix =
           turned m {lo1 = suc lo} (omega arith)
           (stepped m {lo = lo} {hi = 0} {G1 = Stands m v1 w1 (during c env scope (counting z held 0) ∷ calls)} (Const index_slot 0) (λ u. sets u index_slot 0) has_rest.0.0

@@ -1,5 +1,5 @@
 -- The machine follows an operator.
-use Rattle.std.proofs.Common.{◌≡◌, ℕ, suc, ◌+◌, Some, Result, Ok, Err, refl, ap, ◌∙◌}
+use Rattle.std.proofs.Common.{◌≡◌, ℕ, suc, ◌+◌, Some, Result, Ok, Err, refl, ap, ◌∙◌, length}
 use Rattle.std.specs.Prelude.{slice_get, slice_index}
 use Rattle.typed_syntax.specs.Positions.{Position}
 use Rattle.typed_syntax.specs.Types.{TypeTree}
@@ -30,10 +30,10 @@ use Rattle.simulated_code.proofs.Standing.{Panics}
 module _ (m : Built) where
   -- on two operands in slots: a slot gets the word of what it gives, or it panics
   pub operates : (at : Position) (o : BinOp) (s t : TypeTree) (x y : Value) (ws : Ways) (env : Env) (k : Then Value) (v : View) (w : World) (G : Memory → Type 0) (G1 : Value → Memory → Type 0) (to left right pc lo hi b : ℕ) → slice_get m.code.instrs pc ≡ Some (Bin (operation o) to left right)
-      → Panics ws → IsPlain s → Takes o s t → IsOf s x → IsOf s y → ((u : Memory) → G u → Spells x (slice_index u.words left) × Spells y (slice_index u.words right))
+      → Panics ws → IsPlain s → Takes o s t → IsOf s x → IsOf s y → ((u : Memory) → G u → length u.heap ≡ v.heap) → ((u : Memory) → G u → Spells x (slice_index u.words left) × Spells y (slice_index u.words right))
       → ((r : Value) (word : ℕ) (u : Memory) → IsOf t r → Spells r word → G u → G1 r (sets u to word)) → ((r : Value) → IsOf t r → At m lo hi b v (k r w) (G1 r) (pc + 1))
       → At m (suc lo) 1 b v (Meaning.or_panic ws env at (binary_of o x y) k w) G pc
-  operates at o s t x y ws env k v w G G1 to left right pc lo hi b here stops plain takes ix iy stands keeps post =
+  operates at o s t x y ws env k v w G G1 to left right pc lo hi b here stops plain takes ix iy heaped stands keeps post =
       knowing m (λ u0 g0.
       let a = slice_index u0.words left in let c = slice_index u0.words right in let r = stands u0 g0 in
       go a c r.0 r.1 (binary_of o x y) (bin_of (operation o) a c) (agrees o s t x y a c plain takes ix iy r.0 r.1) refl)
@@ -50,7 +50,7 @@ module _ (m : Built) where
           stepped m {lo = lo} {hi = hi} (Bin (operation o) to left right) (λ u. sets u to word) here
           (λ u g. (does a c sa sc u g ∙ ap (puts_or_panics (state_of m pc u) to) e, refl, keeps r word u agree.0 agree.1 g)) (post r agree.0)
       go a c sa sc (Err f) (Err h) agree e =
-          halts m {lo = lo} (Bin (operation o) to left right) (Panic at f) (Panicked (panic_of h)) here (agree m.program.strings) (λ r. ap (seen_from m v r) (stops at f env w))
+          halts m {lo = lo} (Bin (operation o) to left right) (Panic at f) (Panicked (panic_of h)) here (agree m.program.strings) (λ r. ap (seen_from m v r) (stops at f env w)) heaped
           (λ u g. does a c sa sc u g ∙ ap (puts_or_panics (state_of m pc u) to) e)
       go a c sa sc (Ok r) (Err h) agree e = absurd agree
       go a c sa sc (Err f) (Ok word) agree e = absurd agree

@@ -1,26 +1,24 @@
 -- The births of the package variables, with which a program begins.
 use Rattle.std.proofs.Common.{◌≡◌, ◌≢◌, ℕ, zero, suc, ◌+◌, ◌<◌, ◌≤◌, ◌^◌, Bool, true, false, List, [], ◌∷◌, ◌++◌, length, Some, refl, sym, ap, ◌∙◌, subst, arith, get_or, length-append, inl, inr}
 use Rattle.std.specs.Prelude.{slice_get, map, nat_le, ◌==◌, ◌||◌, if◌then◌else◌}
-use Rattle.std.proofs.lemmas.Bool.{eq-eqb}
 use Rattle.std.proofs.lemmas.Bool.Decides.{leb_tells}
 use Rattle.std.proofs.lemmas.List.{length-map, map-append}
 use Rattle.typed_syntax.specs.Types.{TypeTree, ints, width}
 use Rattle.typed_syntax.specs.Value.{Value, Values, int, bool, composite, no_values, more_values, words, IsOf, FitsWords, FitWords}
 use Rattle.typed_syntax.specs.Words.{bit_of, word_of, contents, contents_in, words_of, Hold}
-use Rattle.typed_syntax.specs.Placement.{among}
+use Rattle.frames.specs.Placement.{Placement}
 use Rattle.typed_syntax.specs.Syntax.{Program, global_type}
-use Rattle.meaning.specs.Trace.{Ending, HeapLimit, World}
+use Rattle.meaning.specs.Trace.{HeapLimit, World}
 use Rattle.meaning.specs.Store.{born}
 use Rattle.meaning.specs.Meaning
 use Rattle.meaning.specs.Meaning.{Go, Setting}
-use Rattle.meaning.specs.Output.{Limits, Sight}
+use Rattle.meaning.specs.Output.{Limits, Sight, Last, last}
 use Rattle.simulation.specs.Outcome as Run
 use Rattle.simulation.specs.Outcome.{Lines, Outcome}
 use Rattle.simulation.specs.Follows.{Follows}
 use Rattle.simulation.proofs.Rules
 use Rattle.isa.specs.Bin as Bin
-use Rattle.machine.specs.Machine.{Event}
-use Rattle.machine.specs.declared.run_state.Ending.{Ending as Stop}
+use Rattle.machine.specs.Machine.{Event, Last as Stopped, full_range}
 use Rattle.machine.specs.declared.run_state.Ending.TheVariants.{HeapLimit as Full}
 use Rattle.program_code.specs.Code.{globals_before}
 use Rattle.value_laws.proofs.Lists.{held_joined}
@@ -28,37 +26,19 @@ use Rattle.value_laws.proofs.Parts.{count_of, words_count}
 use Rattle.state_relation.specs.Leaves.{leaves}
 use Rattle.state_relation.specs.Views.{View, Range, after_apart, after_stack, distance, out_from}
 use Rattle.state_relation.specs.Relation.{Memory, Good, sites_of, words_before}
-use Rattle.state_relation.specs.Alike.{same_event, same_end}
+use Rattle.state_relation.specs.Alike.{same_event, same_last}
 use Rattle.state_relation.proofs.PackageWords.{no_global, site_is}
-use Rattle.state_relation.proofs.Calls.{different}
 use Rattle.state_relation.proofs.Lists.{get_is}
 use Rattle.state_relation.proofs.Words.{Holds, held_in, hold_stand, value_fits}
 use Rattle.state_relation.proofs.Births.{born_length}
 use Rattle.state_relation.proofs.Crossing.{birth_apart}
 use Rattle.simulated_code.specs.Correct.{first_words, begun}
 use Rattle.simulated_code.proofs.Numbers.{number_stands}
-use Rattle.simulated_code.proofs.Scopes.{first_or, second_or}
-
--- no package variable has the site
-pub none_among : (site : ℕ) (gs : List (ℕ × Value)) → ((i : ℕ) (g : ℕ × Value) → slice_get gs i ≡ Some g → g.0 ≢ site) → among site gs ≡ false
-none_among site [] apart = refl
-none_among site (g ∷ gs) apart = ap (λ b. b || among site gs) (different g.0 site (apart 0 g refl)) ∙ none_among site gs (λ i h e. apart (suc i) h e)
 
 -- all have sites with this
-abbrev AllOn : (ℕ → Bool) → List (ℕ × Value) → Type 0
+abbrev pub AllOn : (ℕ → Bool) → List (ℕ × Value) → Type 0
 AllOn on [] = Unit {0}
 AllOn on (g ∷ gs) = (on g.0 ≡ true) × AllOn on gs
-
-all_more : (on also : ℕ → Bool) (gs : List (ℕ × Value)) → ((site : ℕ) → on site ≡ true → also site ≡ true) → AllOn on gs → AllOn also gs
-all_more on also [] more all = tt
-all_more on also (g ∷ gs) more all = (more g.0 all.0, all_more on also gs more all.1)
-
-pub all_among : (gs : List (ℕ × Value)) → AllOn (λ site. among site gs) gs
-all_among [] = tt
-all_among (g ∷ gs) = (
-  first_or (g.0 == g.0) (among g.0 gs) (eq-eqb g.0 g.0 refl),
-  all_more (λ site. among site gs) (λ site. among site (g ∷ gs)) gs (λ site e. second_or (g.0 == site) (among site gs) e) (all_among gs),
-)
 
 -- each begins with a value of its site's type, whose whole numbers are of 64 bits
 abbrev pub AllFit : List TypeTree → List (ℕ × Value) → Type 0
@@ -101,11 +81,14 @@ abbrev pub first_store : (stack_max : ℕ) → (heap words : List ℕ) → Memor
 first_store stack_max heap words = record { hi = 2 ^ 40 + stack_max; size = stack_max; words = words; heap = heap; reads = 0 }
 
 abbrev pub first_range : (stack_max : ℕ) → Range
-first_range stack_max = record { hi = 2 ^ 40 + stack_max; size = stack_max }
+first_range stack_max = full_range stack_max
 
-module _ (p : Program) (l : Limits) (small : l.heap_max ≤ 2 ^ 32) (around : Setting) (sites_are : around.sites ≡ p.sites) (go : Go) (run : List ℕ → ℕ → Outcome Event Stop) (b : ℕ) where
-  abbrev Follow : Lines Sight Ending → (ℕ → Outcome Event Stop) → Type 0
-  Follow t m = Follows Sight Event Ending Stop same_event (same_end p.strings) 0 0 b t m
+module _ (p : Program) (pl : Placement) (l : Limits) (small : l.heap_max ≤ 2 ^ 32) (around : Setting) (sites_are : around.sites ≡ p.sites) (go : Go) (run : List ℕ → ℕ → Outcome Event Stopped) (b : ℕ) where
+  abbrev Follow : Lines Sight Last → (ℕ → Outcome Event Stopped) → Type 0
+  Follow t m = Follows Sight Event Last Stopped same_event (same_last p.strings) 0 0 b t m
+
+  abbrev full : (used asked : ℕ) → Stopped
+  full used asked = record { ending = Full used asked l.heap_max; heap = used }
 
   abbrev store_with : List ℕ → Memory
   store_with heap = first_store l.stack_max heap []
@@ -115,16 +98,16 @@ module _ (p : Program) (l : Limits) (small : l.heap_max ≤ 2 ^ 32) (around : Se
 
   -- what stands when so many are born
   pub record Begins (i : ℕ) (v : View) (w : World) (heap : List ℕ) : Type 0 where
-    pub good : Good p l.stack_max v w [] (store_with heap)
+    pub good : Good p pl l.stack_max v w [] (store_with heap)
     pub count : length w.store ≡ i
     pub before : v.heap ≡ words_before p i
     pub room : length heap ≤ l.heap_max
 
   -- one more is born
   one_born : (i site : ℕ) (x : Value) (v : View) (w : World) (heap : List ℕ) → slice_get p.globals i ≡ Some (site, x) → i < length p.globals → IsOf (get_or p.sites site ints) x → FitsWords x → length heap + length (words_of x) ≤ l.heap_max
-      → Begins i v w heap → Begins (suc i) (after_apart v (words x)) (born w (Meaning.new_cell around 0 site x)) (heap ++ words_of x)
+      → Begins i v w heap → Begins (suc i) (after_apart v (words x)) (born w (Meaning.new_cell 0 site (Meaning.site_type around site) x)) (heap ++ words_of x)
   one_born i site x v w heap e lt is fits le g =
-      let y = Meaning.new_cell around 0 site x in let count = g.count in let used = g.good.sized.heap_used in let before = g.before in
+      let y = Meaning.new_cell 0 site (Meaning.site_type around site) x in let count = g.count in let used = g.good.sized.heap_used in let before = g.before in
       let kind : y.type ≡ get_or p.sites site ints = ap (λ ts. get_or ts site ints) sites_are in
       let this : (get_or p.globals i no_global).0 ≡ site = ap (λ (q : ℕ × Value). q.0) (get_is p.globals i (site, x) no_global e) in
       let wide : words x ≡ width y.type = words_count x ∙ count_of (get_or p.sites site ints) x is ∙ ap width (sym kind) in
@@ -134,33 +117,33 @@ module _ (p : Program) (l : Limits) (small : l.heap_max ≤ 2 ^ 32) (around : Se
       let step = before_step p.sites (sites_of p.globals) i (omega (arith, length-map p.globals (λ (q : ℕ × Value). q.0))) in
       let step_wide : width (get_or p.sites (get_or (sites_of p.globals) i 0) ints) ≡ width y.type = ap (λ k. width (get_or p.sites k ints)) first ∙ ap width (sym kind) in
       record {
-        good = birth_apart p l.stack_max v w [] (store_with heap) (words x) y (words_of x) wide (omega arith) (subst (λ o. IsOf o x) (sym kind) is)
+        good = birth_apart p pl l.stack_max v w [] (store_with heap) (words x) y (words_of x) wide (omega arith) (subst (λ o. IsOf o x) (sym kind) is)
             (hold_stand v.homes (2 ^ 40 + l.stack_max) w (leaves y.type) (contents x) (words_of x) (value_fits y.type x (subst (λ o. IsOf o x) (sym kind) is)) (held_in (contents x) (words_of x) (words_hold x fits)))
             (λ z. (sym type ∙ ap (λ k. global_type p k) (sym count), before ∙ ap (words_before p) (sym count))) g.good;
-        count = omega (arith, count, born_length p l.stack_max w y);
+        count = omega (arith, count, born_length p pl l.stack_max w y);
         before = omega (arith, before, step, step_wide, wide);
         room = omega (arith, length-append heap (words_of x));
       }
 
   -- They follow: each takes its words of the heap, until one has no room.
   pub globals_follow : (gs : List (ℕ × Value)) (i : ℕ) (v : View) (w : World) (heap : List ℕ) → ((j : ℕ) → slice_get gs j ≡ slice_get p.globals (i + j)) → i + length gs ≡ length p.globals → AllOn l.on_heap gs → AllFit p.sites gs → Begins i v w heap
-      → ((v1 : View) (w1 : World) (heap1 : List ℕ) → Begins (length p.globals) v1 w1 heap1 → Follow (out_from p l v1 range_with (go w1)) (run heap1))
-      → Follow (out_from p l v range_with (Meaning.bear_globals around gs go w)) (λ k. begun l.heap_max heap (first_words gs) (λ ws. run ws k))
+      → ((v1 : View) (w1 : World) (heap1 : List ℕ) → Begins (length p.globals) v1 w1 heap1 → Follow (out_from p pl l v1 range_with (go w1)) (run heap1))
+      → Follow (out_from p pl l v range_with (Meaning.bear_globals around gs go w)) (λ k. begun l.heap_max heap (first_words gs) (λ ws. run ws k))
   globals_follow [] i v w heap rest ends on fit g post = post v w heap (let e : i ≡ length p.globals = omega arith in subst (λ k. Begins k v w heap) e g)
   globals_follow ((site, x) ∷ gs) i v w heap rest ends on fit g post =
-      let u = born w (Meaning.new_cell around 0 site x) in let t = Meaning.bear_globals around gs go u in let v1 = after_apart v (words x) in
+      let u = born w (Meaning.new_cell 0 site (Meaning.site_type around site) x) in let t = Meaning.bear_globals around gs go u in let v1 = after_apart v (words x) in
       let n = length (words_of x) in let have = length heap in let more = first_words gs in
       let same : n ≡ words x = length-map (contents x) word_of ∙ sym (words_count x) in let used : have ≡ v.heap = g.good.sized.heap_used in
       let zero_more : i ≡ i + 0 = omega arith in
       let this : slice_get p.globals i ≡ Some (site, x) = ap (slice_get p.globals) zero_more ∙ sym (rest 0) in
       let behind : (j : ℕ) → slice_get gs j ≡ slice_get p.globals (suc i + j) = λ j. (let e : i + suc j ≡ suc i + j = omega arith in rest (suc j) ∙ ap (slice_get p.globals) e) in
-      subst (λ z. Follow (if z then (if nat_le (v.heap + words x) l.heap_max then out_from p l v1 range_with t else Run.End (HeapLimit v.heap (words x) l.heap_max)) else out_from p l (after_stack v (distance p l v.calls site)) range_with t)
-      (λ k. if nat_le (have + n) l.heap_max then begun l.heap_max (heap ++ words_of x) more (λ ws. run ws k) else Run.Ends (Full have n l.heap_max))) (sym on.0)
-      (subst (λ c. Follow (if nat_le (c + words x) l.heap_max then out_from p l v1 range_with t else Run.End (HeapLimit c (words x) l.heap_max)) (λ k. if nat_le (have + n) l.heap_max then begun l.heap_max (heap ++ words_of x) more (λ ws. run ws k) else Run.Ends (Full have n l.heap_max))) used
-      (subst (λ c. Follow (if nat_le (have + c) l.heap_max then out_from p l v1 range_with t else Run.End (HeapLimit have c l.heap_max)) (λ k. if nat_le (have + n) l.heap_max then begun l.heap_max (heap ++ words_of x) more (λ ws. run ws k) else Run.Ends (Full have n l.heap_max))) same
+      subst (λ z. Follow (if z then (if nat_le (v.heap + words x) l.heap_max then out_from p pl l v1 range_with t else Run.End (last v.heap (HeapLimit v.heap (words x) l.heap_max))) else out_from p pl l (after_stack v (distance p pl l v.calls site)) range_with t)
+      (λ k. if nat_le (have + n) l.heap_max then begun l.heap_max (heap ++ words_of x) more (λ ws. run ws k) else Run.Ends (full have n))) (sym on.0)
+      (subst (λ c. Follow (if nat_le (c + words x) l.heap_max then out_from p pl l v1 range_with t else Run.End (last c (HeapLimit c (words x) l.heap_max))) (λ k. if nat_le (have + n) l.heap_max then begun l.heap_max (heap ++ words_of x) more (λ ws. run ws k) else Run.Ends (full have n))) used
+      (subst (λ c. Follow (if nat_le (have + c) l.heap_max then out_from p pl l v1 range_with t else Run.End (last have (HeapLimit have c l.heap_max))) (λ k. if nat_le (have + n) l.heap_max then begun l.heap_max (heap ++ words_of x) more (λ ws. run ws k) else Run.Ends (full have n))) same
       (elim (leb_tells (have + n) l.heap_max) [
-        | inl q ↦ subst (λ z. Follow (if z then out_from p l v1 range_with t else Run.End (HeapLimit have n l.heap_max)) (λ k. if z then begun l.heap_max (heap ++ words_of x) more (λ ws. run ws k) else Run.Ends (Full have n l.heap_max))) (sym q.0)
+        | inl q ↦ subst (λ z. Follow (if z then out_from p pl l v1 range_with t else Run.End (last have (HeapLimit have n l.heap_max))) (λ k. if z then begun l.heap_max (heap ++ words_of x) more (λ ws. run ws k) else Run.Ends (full have n))) (sym q.0)
             (globals_follow gs (suc i) v1 u (heap ++ words_of x) behind (omega arith) on.1 fit.1 (one_born i site x v w heap this (omega arith) fit.0.0 fit.0.1 q.1 g) post)
-        | inr q ↦ subst (λ z. Follow (if z then out_from p l v1 range_with t else Run.End (HeapLimit have n l.heap_max)) (λ k. if z then begun l.heap_max (heap ++ words_of x) more (λ ws. run ws k) else Run.Ends (Full have n l.heap_max))) (sym q.0)
-            (Rules.ended Sight Event Ending Stop same_event (same_end p.strings) {lo = 0} {hi = 0} {b = b} (HeapLimit have n l.heap_max) (Full have n l.heap_max) (refl, refl, refl) (λ k. refl))
+        | inr q ↦ subst (λ z. Follow (if z then out_from p pl l v1 range_with t else Run.End (last have (HeapLimit have n l.heap_max))) (λ k. if z then begun l.heap_max (heap ++ words_of x) more (λ ws. run ws k) else Run.Ends (full have n))) (sym q.0)
+            (Rules.ended Sight Event Last Stopped same_event (same_last p.strings) {lo = 0} {hi = 0} {b = b} (last have (HeapLimit have n l.heap_max)) (full have n) ((refl, refl, refl), refl) (λ k. refl))
       ])))

@@ -6,7 +6,7 @@ use Rattle.typed_syntax.specs.Value.{Value}
 use Rattle.typed_syntax.specs.Words.{Content, contents}
 use Rattle.typed_syntax.specs.Syntax.{Func, local, here as itself, argument_words, result_words, site_type, all_width}
 use Rattle.typed_syntax.specs.Form.{AreOf, InScope}
-use Rattle.typed_syntax.specs.Frames.{frame_of, widest, temps_of}
+use Rattle.frames.specs.Frames.{frame_of, widest, temps_of}
 use Rattle.value_laws.proofs.Parts.{count_of}
 use Rattle.meaning.specs.Trace.{Exit, Return as Returned, World, Note, End}
 use Rattle.meaning.specs.Store.{value_of, written}
@@ -61,7 +61,7 @@ module _ (m : Built) where
 
   -- words are set in the outgoing area of the call above, if there is one
   set_above : (calls : List Frame) (c : Frame) (v : View) (w : World) (s : Memory) (ls : List TypeTree) (cs : List Content) (a : ℕ) (xs : List ℕ) → 0 < length ls → a + length ls ≤ room_of m calls → Stand v.homes s.hi w ls cs xs → Stands m v w (c ∷ calls) s
-      → Stands m v w (c ∷ calls) (puts s (frame_of m.program c.func + a) xs) × Passing m v w calls ls cs a (puts s (frame_of m.program c.func + a) xs) × (frame_of m.program c.func + a + length ls ≤ length s.words)
+      → Stands m v w (c ∷ calls) (puts s (frame_of m.program m.placement c.func + a) xs) × Passing m v w calls ls cs a (puts s (frame_of m.program m.placement c.func + a) xs) × (frame_of m.program m.placement c.func + a + length ls ≤ length s.words)
   set_above [] c v w s ls cs a xs some room st g = absurd (omega arith)
   set_above (up ∷ rest) c v w s ls cs a xs some room st g = let long = st.long in (
     good_above m v w c up rest s a xs (omega arith) g,
@@ -70,12 +70,12 @@ module _ (m : Built) where
   )
 
   -- results without names
-  unnamed : (c : Frame) (calls : List Frame) (k : Then (List Value)) (v : View) (w : World) (rs : List Value) (ks : List Kept) (count n h pc lo b : ℕ) → length c.held ≡ h → Standing m.code c.fn pc (result_code count (temp (slots_of m.program c.func) h) (argument_words c.func) ++ Return ∷ []) → Linked m c.fn calls
+  unnamed : (c : Frame) (calls : List Frame) (k : Then (List Value)) (v : View) (w : World) (rs : List Value) (ks : List Kept) (count n h pc lo b : ℕ) → length c.held ≡ h → Standing m.code c.fn pc (result_code count (temp (slots_of m.program m.placement c.func) h) (argument_words c.func) ++ Return ∷ []) → Linked m c.fn calls
       → argument_words c.func + result_words c.func ≤ room_of m calls → Home lo b c.func calls k → count ≡ result_words c.func → (0 < count → ks ≡ all_kept c.func.results rs) → AreOf c.func.results rs → At m lo 0 b v (Meaning.leave_with n k rs w) (Stands m v w (hold c (c.held ++ ks) ∷ calls)) pc
   unnamed c calls k v w rs ks zero n h pc lo b hh has from room home many same typed =
       given m (λ s g. (g, λ j l. absurd (omega (arith, all_leaves_length c.func.results, many)))) (leave_end (hold c (c.held ++ ks)) calls k v w rs n pc lo b has.0.0 has.0.1 from room home typed)
   unnamed c calls k v w rs ks (suc i) n h pc lo b hh has from room home many same typed =
-      let fr = frame_of m.program c.func in let a = argument_words c.func in let t = temp (slots_of m.program c.func) h in let ls = all_leaves c.func.results in
+      let fr = frame_of m.program m.placement c.func in let a = argument_words c.func in let t = temp (slots_of m.program m.placement c.func) h in let ls = all_leaves c.func.results in
       let long : length ls ≡ suc i = omega (arith, all_leaves_length c.func.results, many) in
       let held = λ (s : Memory) (g : Stands m v w (hold c (c.held ++ ks) ∷ calls) s). values_stand m v w c calls s c.held c.func.results rs h (suc i) hh many (subst (λ l. Stands m v w (hold c (c.held ++ l) ∷ calls) s) (same (omega arith)) g) in
       let put = λ (s : Memory) (g : Stands m v w (hold c (c.held ++ ks) ∷ calls) s). set_above calls (hold c (c.held ++ ks)) v w s ls (contents_of rs) a (words_at s.words t (suc i)) (omega arith) (omega (arith, long)) (held s g) g in
@@ -86,12 +86,12 @@ module _ (m : Built) where
 
   -- results with names: they are written
   named_writes : (sites : List ℕ) (vs : List Value) (gone all : List Kept) (c : Frame) (env : Env) (scope : List ℕ) (calls : List Frame) (g : Go) (v : View) (w : World) (h pc lo b : ℕ) → AreOf (map (site_type m.program) sites) vs → length gone ≡ h → all ≡ gone ++ all_kept (map (site_type m.program) sites) vs
-      → Standing m.code c.fn pc (named_write_code (slots_of m.program c.func) sites h) → ((u : ℕ) → InScope u sites → InScope u scope)
+      → Standing m.code c.fn pc (named_write_code (slots_of m.program m.placement c.func) sites h) → ((u : ℕ) → InScope u sites → InScope u scope)
       → ((w1 : World) → At m lo 0 b v (g w1) (Stands m v w1 (during c env scope all ∷ calls)) (pc + length sites)) → At m lo 0 b v (Meaning.write_results sites vs env g w) (Stands m v w (during c env scope all ∷ calls)) pc
   named_writes [] vs gone all c env scope calls g v w h pc lo b typed hg e has sub post = place_is m (let q : pc + 0 ≡ pc = omega arith in q) (post w)
   named_writes (site ∷ sites) [] gone all c env scope calls g v w h pc lo b typed hg e has sub post = absurd typed
   named_writes (site ∷ sites) (x ∷ vs) gone all c env scope calls g v w h pc lo b typed hg e has sub post =
-      let s = slots_of m.program c.func in let t = site_type m.program site in let n = width t in let more = all_kept (map (site_type m.program) sites) vs in
+      let s = slots_of m.program m.placement c.func in let t = site_type m.program site in let n = width t in let more = all_kept (map (site_type m.program) sites) vs in
       let solid = m.solid site in let c0 = during c env scope all in
       let z : site_slot s site ≡ site_slot s site + 0 = omega arith in
       let split : all ≡ gone ++ (kept t x ++ more) = e ∙ ap (λ l. gone ++ l) (all_kept_first t (map (site_type m.program) sites) x vs typed.0) in
@@ -101,15 +101,15 @@ module _ (m : Built) where
       (λ w1. place_is m (let q : pc + suc (length sites) ≡ pc + 1 + length sites = omega arith in q) (post w1)))))
 
   -- and read
-  named_reads : (sites : List ℕ) (ls : List TypeTree) (cs : List Content) (c : Frame) (env : Env) (scope : List ℕ) (calls : List Frame) (k : Then (List Value)) (v : View) (w : World) (i pc lo b : ℕ) → i ≡ argument_words c.func + length ls → length cs ≡ length ls → i + all_width (map (site_type m.program) sites) ≤ room_of m calls → widest m.program sites ≤ temps_of m.program c.func
-      → Standing m.code c.fn pc (named_read_code (slots_of m.program c.func) sites i) → ((u : ℕ) → InScope u sites → InScope u scope)
+  named_reads : (sites : List ℕ) (ls : List TypeTree) (cs : List Content) (c : Frame) (env : Env) (scope : List ℕ) (calls : List Frame) (k : Then (List Value)) (v : View) (w : World) (i pc lo b : ℕ) → i ≡ argument_words c.func + length ls → length cs ≡ length ls → i + all_width (map (site_type m.program) sites) ≤ room_of m calls → widest m.program sites ≤ temps_of m.program m.placement c.func
+      → Standing m.code c.fn pc (named_read_code (slots_of m.program m.placement c.func) sites i) → ((u : ℕ) → InScope u sites → InScope u scope)
       → ((rs : List Value) → AreOf (map (site_type m.program) sites) rs → At m lo 0 b v (k rs w) (λ s. Stands m v w (during c env scope [] ∷ calls) s × Passing m v w calls (ls ++ all_leaves (map (site_type m.program) sites)) (cs ++ contents_of rs) (argument_words c.func) s) (pc + named_read_size sites))
       → At m lo 0 b v (Meaning.read_results sites env k w) (λ s. Stands m v w (during c env scope [] ∷ calls) s × Passing m v w calls ls cs (argument_words c.func) s) pc
   named_reads [] ls cs c env scope calls k v w i pc lo b ei el room some has sub post =
       given m (λ s g. (g.0, subst (λ l. Passing m v w calls l (cs ++ []) (argument_words c.func) s) (sym (append-nil ls)) (subst (λ l. Passing m v w calls ls l (argument_words c.func) s) (sym (append-nil cs)) g.1)))
       (place_is m (let q : pc + 0 ≡ pc = omega arith in q) (post [] tt))
   named_reads (site ∷ sites) ls cs c env scope calls k v w i pc lo b ei el room some has sub post =
-      let s = slots_of m.program c.func in let fr = frame_of m.program c.func in let a = argument_words c.func in
+      let s = slots_of m.program m.placement c.func in let fr = frame_of m.program m.placement c.func in let a = argument_words c.func in
       let x = value_of w (env site) in let t = site_type m.program site in let n = width t in let solid = m.solid site in
       let c0 = during c env scope [] in let c1 = during c env scope (kept t x) in let scoped = sub site (inl refl) in
       let rest = all_leaves (map (site_type m.program) sites) in
@@ -148,12 +148,12 @@ module _ (m : Built) where
       (post (x ∷ rs) (typed, of_types)))))))))
     where
       -- what was passed before stays when more is passed after it
-      passing_above_kept : (ps : List Frame) (c1 : Frame) (v : View) (w : World) (u : Memory) (ls : List TypeTree) (cs : List Content) (a i : ℕ) (xs : List ℕ) → i ≡ a + length ls → i + length xs ≤ room_of m ps → Stands m v w (c1 ∷ ps) u → Passing m v w ps ls cs a u → Passing m v w ps ls cs a (puts u (frame_of m.program c1.func + i) xs)
+      passing_above_kept : (ps : List Frame) (c1 : Frame) (v : View) (w : World) (u : Memory) (ls : List TypeTree) (cs : List Content) (a i : ℕ) (xs : List ℕ) → i ≡ a + length ls → i + length xs ≤ room_of m ps → Stands m v w (c1 ∷ ps) u → Passing m v w ps ls cs a u → Passing m v w ps ls cs a (puts u (frame_of m.program m.placement c1.func + i) xs)
       passing_above_kept [] c1 v w u ls cs a i xs ei room g pass j l = absurd (omega arith)
       passing_above_kept (up ∷ rest) c1 v w u ls cs a i xs ei room g pass j l =
           let used = g.sized.used in
           subst (λ z. StandsFor v.homes u.hi w (get_or ls j ints) (get_or cs j nothing) z)
-          (sym (put_other u.words (frame_of m.program c1.func + i) xs (depth m.program (up ∷ rest) - (a + j)) (omega arith) (inl (omega arith)))) (pass j l)
+          (sym (put_other u.words (frame_of m.program m.placement c1.func + i) xs (depth m.program m.placement (up ∷ rest) - (a + j)) (omega arith) (inl (omega arith)))) (pass j l)
 
   -- a return with a value for each result, or with none where they have names
   abbrev pub Given : Func → ℕ → List Value → List Kept → Type 0
@@ -162,8 +162,8 @@ module _ (m : Built) where
   -- what a return does
   abbrev pub Returns : (lo b : ℕ) → Frame → List Frame → (List Value → Env → Go) → Type 0
   Returns lo b c calls r =
-      (vs : List Value) (ks : List Kept) (count : ℕ) (env : Env) (scope : List ℕ) (held : List Kept) (v : View) (w : World) (h pc : ℕ) → length held ≡ h → Standing m.code c.fn pc (values_code (slots_of m.program c.func) (argument_words c.func) count c.func.named h ++ leave_code (slots_of m.program c.func) (argument_words c.func) c.func.named)
-      → Given c.func count vs ks → widest m.program c.func.named ≤ temps_of m.program c.func → ((u : ℕ) → InScope u c.func.named → InScope u scope) → At m lo 0 b v (r vs env w) (Stands m v w (during c env scope (held ++ ks) ∷ calls)) pc
+      (vs : List Value) (ks : List Kept) (count : ℕ) (env : Env) (scope : List ℕ) (held : List Kept) (v : View) (w : World) (h pc : ℕ) → length held ≡ h → Standing m.code c.fn pc (values_code (slots_of m.program m.placement c.func) (argument_words c.func) count c.func.named h ++ leave_code (slots_of m.program m.placement c.func) (argument_words c.func) c.func.named)
+      → Given c.func count vs ks → widest m.program c.func.named ≤ temps_of m.program m.placement c.func → ((u : ℕ) → InScope u c.func.named → InScope u scope) → At m lo 0 b v (r vs env w) (Stands m v w (during c env scope (held ++ ks) ∷ calls)) pc
 
   pub returns_later : (lo lo1 b b1 : ℕ) (c : Frame) (calls : List Frame) (r : List Value → Env → Go) → lo ≤ lo1 → b1 ≤ b → Returns lo b c calls r → Returns lo1 b1 c calls r
   returns_later lo lo1 b b1 c calls r p q ret vs ks count env scope held v w h pc hh has gives room sub = later m {lo = lo} {hi = 0} {b = b} p (omega arith) q (ret vs ks count env scope held v w h pc hh has gives room sub)
@@ -171,10 +171,10 @@ module _ (m : Built) where
   -- by the names of the results
   module _ (c : Frame) (calls : List Frame) (k : Then (List Value)) (n lo b : ℕ) (from : Linked m c.fn calls) (room : argument_words c.func + result_words c.func ≤ room_of m calls) (home : Home lo b c.func calls k) where
     -- results that have been written are read, and the call returns
-    reads_all : (sites : List ℕ) (env : Env) (scope : List ℕ) (v : View) (w : World) (pc : ℕ) → map (site_type m.program) sites ≡ c.func.results → widest m.program sites ≤ temps_of m.program c.func → Standing m.code c.fn pc (leave_code (slots_of m.program c.func) (argument_words c.func) sites) → ((u : ℕ) → InScope u sites → InScope u scope)
+    reads_all : (sites : List ℕ) (env : Env) (scope : List ℕ) (v : View) (w : World) (pc : ℕ) → map (site_type m.program) sites ≡ c.func.results → widest m.program sites ≤ temps_of m.program m.placement c.func → Standing m.code c.fn pc (leave_code (slots_of m.program m.placement c.func) (argument_words c.func) sites) → ((u : ℕ) → InScope u sites → InScope u scope)
         → At m lo 0 b v (Meaning.read_results sites env (Meaning.leave_with n k) w) (Stands m v w (during c env scope [] ∷ calls)) pc
     reads_all sites env scope v w pc names some has sub =
-        let s = slots_of m.program c.func in let a = argument_words c.func in
+        let s = slots_of m.program m.placement c.func in let a = argument_words c.func in
         let reads = named_read_code s sites a in
         let all : all_width (map (site_type m.program) sites) ≡ result_words c.func = ap all_width names in
         let has_r = back m.code c.fn pc (named_read_size sites) reads (Return ∷ []) (length_named_read s sites a) has in
@@ -184,8 +184,8 @@ module _ (m : Built) where
         (leave_end (during c env scope []) calls k v w rs n (pc + named_read_size sites) lo b has_r.0.0 has_r.0.1 from room home (subst (λ ts. AreOf ts rs) names typed))))
 
     leaves_by : (sites : List ℕ) (vs : List Value) (ks : List Kept) (count : ℕ) (env : Env) (scope : List ℕ) (held : List Kept) (v : View) (w : World) (h pc : ℕ) → (sites ≡ []) ⊎ (map (site_type m.program) sites ≡ c.func.results) → length held ≡ h
-        → Standing m.code c.fn pc (values_code (slots_of m.program c.func) (argument_words c.func) count sites h ++ leave_code (slots_of m.program c.func) (argument_words c.func) sites)
-        → ((count ≡ result_words c.func) × AreOf c.func.results vs × (ks ≡ all_kept c.func.results vs)) ⊎ ((count ≡ 0) × (vs ≡ []) × (length sites ≡ length c.func.results)) → widest m.program sites ≤ temps_of m.program c.func → ((u : ℕ) → InScope u sites → InScope u scope)
+        → Standing m.code c.fn pc (values_code (slots_of m.program m.placement c.func) (argument_words c.func) count sites h ++ leave_code (slots_of m.program m.placement c.func) (argument_words c.func) sites)
+        → ((count ≡ result_words c.func) × AreOf c.func.results vs × (ks ≡ all_kept c.func.results vs)) ⊎ ((count ≡ 0) × (vs ≡ []) × (length sites ≡ length c.func.results)) → widest m.program sites ≤ temps_of m.program m.placement c.func → ((u : ℕ) → InScope u sites → InScope u scope)
         → At m lo 0 b v (Meaning.leave sites n k vs env w) (Stands m v w (during c env scope (held ++ ks) ∷ calls)) pc
     leaves_by [] vs ks count env scope held v w h pc names hh has gives some sub = elim gives [
       | inl e ↦ unnamed (during c env scope held) calls k v w vs ks count n h pc lo b hh has from room home e.0 (λ z. e.2) e.1
@@ -211,7 +211,7 @@ module _ (m : Built) where
         no_first : AreOf (map (site_type m.program) (site ∷ sites)) [] → ⊥
         no_first f = f
     leaves_by (site ∷ sites) (x ∷ vs) ks (suc i) env scope held v w h pc names hh has gives some sub =
-        let s = slots_of m.program c.func in let a = argument_words c.func in
+        let s = slots_of m.program m.placement c.func in let a = argument_words c.func in
         let all : map (site_type m.program) (site ∷ sites) ≡ c.func.results = elim names [ inl e ↦ absurd cc e | inr e ↦ e ] in
         let typed : AreOf c.func.results (x ∷ vs) = elim gives [ inl e ↦ e.1 | inr e ↦ absurd cc (e.1) ] in
         let same : ks ≡ all_kept c.func.results (x ∷ vs) = elim gives [ inl e ↦ e.2 | inr e ↦ absurd cc (e.1) ] in

@@ -3,7 +3,7 @@ use Rattle.std.proofs.Common.{◌≡◌, ℕ, zero, suc, ◌+◌, ◌-◌, ◌<�
 use Rattle.std.specs.Prelude.{slice_get, slice_index, ◌==◌, int_lt, if◌then◌else◌}
 use Rattle.typed_syntax.specs.Types.{ints}
 use Rattle.typed_syntax.specs.Value.{Value, int}
-use Rattle.typed_syntax.specs.Frames.{temps_of}
+use Rattle.frames.specs.Frames.{temps_of}
 use Rattle.meaning.specs.Trace.{World}
 use Rattle.meaning.specs.Meaning
 use Rattle.meaning.specs.Meaning.{Env, Go, Then}
@@ -59,20 +59,20 @@ module _ (m : Built) (c : Frame) (calls : List Frame) where
         (λ t w1 v1. after_later m c calls held scope behind lo lo b d (k u) (omega arith) db (post t u) env w1 v1)
 
   -- the rounds of a `range` over a number, which is held, with the index above it
-  module _ (z : ℤ) (held : List Kept) (h : ℕ) (scope : List ℕ) (test turn behind : ℕ) (hh : length held ≡ h) (room : h + 2 < temps_of m.program c.func)
-      (less : slice_get m.code.instrs test ≡ Some (Bin Word.Less (temp (slots_of m.program c.func) (h + 2)) (temp (slots_of m.program c.func) (h + 1)) (temp (slots_of m.program c.func) h)))
-      (leave : slice_get m.code.instrs (test + 1) ≡ Some (JumpZero (temp (slots_of m.program c.func) (h + 2)) behind))
-      (one : slice_get m.code.instrs turn ≡ Some (Const (temp (slots_of m.program c.func) (h + 2)) 1))
-      (add : slice_get m.code.instrs (turn + 1) ≡ Some (Bin Word.Add (temp (slots_of m.program c.func) (h + 1)) (temp (slots_of m.program c.func) (h + 1)) (temp (slots_of m.program c.func) (h + 2))))
+  module _ (z : ℤ) (held : List Kept) (h : ℕ) (scope : List ℕ) (test turn behind : ℕ) (hh : length held ≡ h) (room : h + 2 < temps_of m.program m.placement c.func)
+      (less : slice_get m.code.instrs test ≡ Some (Bin Word.Less (temp (slots_of m.program m.placement c.func) (h + 2)) (temp (slots_of m.program m.placement c.func) (h + 1)) (temp (slots_of m.program m.placement c.func) h)))
+      (leave : slice_get m.code.instrs (test + 1) ≡ Some (JumpZero (temp (slots_of m.program m.placement c.func) (h + 2)) behind))
+      (one : slice_get m.code.instrs turn ≡ Some (Const (temp (slots_of m.program m.placement c.func) (h + 2)) 1))
+      (add : slice_get m.code.instrs (turn + 1) ≡ Some (Bin Word.Add (temp (slots_of m.program m.placement c.func) (h + 1)) (temp (slots_of m.program m.placement c.func) (h + 1)) (temp (slots_of m.program m.placement c.func) (h + 2))))
       (back : slice_get m.code.instrs (turn + 1 + 1) ≡ Some (Jump test)) where
     abbrev number_slot : ℕ
-    number_slot = temp (slots_of m.program c.func) h
+    number_slot = temp (slots_of m.program m.placement c.func) h
 
     abbrev index_slot : ℕ
-    index_slot = temp (slots_of m.program c.func) (h + 1)
+    index_slot = temp (slots_of m.program m.placement c.func) (h + 1)
 
     abbrev spare_slot : ℕ
-    spare_slot = temp (slots_of m.program c.func) (h + 2)
+    spare_slot = temp (slots_of m.program m.placement c.func) (h + 2)
 
     -- the stores in the round of an index
     abbrev In : ℕ → Env → World → View → Memory → Type 0

@@ -11,7 +11,7 @@ use Rattle.program_code.specs.Code.{temp, slots_of, moves, zeros}
 use Rattle.state_relation.specs.Leaves.{leaves}
 use Rattle.state_relation.specs.Views.{View}
 use Rattle.state_relation.specs.Relation.{Memory, puts, sets, Kept, address, Frame, hold, Stand}
-use Rattle.typed_syntax.specs.Frames.{temps_of}
+use Rattle.frames.specs.Frames.{temps_of}
 use Rattle.state_relation.proofs.Lists.{append_new}
 use Rattle.state_relation.proofs.Distances.{put_one}
 use Rattle.state_relation.proofs.Changes.{good_free}
@@ -26,18 +26,18 @@ module _ (m : Built) where
   none_behind : (v : View) (w : World) (c : Frame) (calls : List Frame) (s : Memory) (held : List Kept) (t : TypeTree) (x : Value) → Stands m v w (hold c (held ++ kept t x) ∷ calls) s → Stands m v w (hold c (held ++ (kept t x ++ [])) ∷ calls) s
   none_behind v w c calls s held t x g = subst (λ l. Stands m v w (hold c (held ++ l) ∷ calls) s) (sym (append-nil (kept t x))) g
 
-  pub last_word : (v : View) (w : World) (c : Frame) (calls : List Frame) (s : Memory) (held : List Kept) (t : TypeTree) (x : Value) (h : ℕ) → length held ≡ h → width t ≡ 1 → Stands m v w (hold c (held ++ kept t x) ∷ calls) s → Spells x (slice_index s.words (temp (slots_of m.program c.func) h))
+  pub last_word : (v : View) (w : World) (c : Frame) (calls : List Frame) (s : Memory) (held : List Kept) (t : TypeTree) (x : Value) (h : ℕ) → length held ≡ h → width t ≡ 1 → Stands m v w (hold c (held ++ kept t x) ∷ calls) s → Spells x (slice_index s.words (temp (slots_of m.program m.placement c.func) h))
   last_word v w c calls s held t x h hh one g = held_word m v w c calls s held [] t x h hh one (none_behind v w c calls s held t x g)
 
   pub last_stand : (v : View) (w : World) (c : Frame) (calls : List Frame) (s : Memory) (held : List Kept) (t : TypeTree) (x : Value) (h n : ℕ) → length held ≡ h → n ≡ width t → Stands m v w (hold c (held ++ kept t x) ∷ calls) s
-      → Stand v.homes s.hi w (leaves t) (contents x) (words_at s.words (temp (slots_of m.program c.func) h) n)
+      → Stand v.homes s.hi w (leaves t) (contents x) (words_at s.words (temp (slots_of m.program m.placement c.func) h) n)
   last_stand v w c calls s held t x h n hh wide g = held_stand m v w c calls s held [] t x h n hh wide (none_behind v w c calls s held t x g)
 
-  pub last_hold : (v : View) (w : World) (c : Frame) (calls : List Frame) (s : Memory) (held : List Kept) (t : TypeTree) (x : Value) (h n : ℕ) → length held ≡ h → n ≡ width t → IsOf t x → Stands m v w (hold c (held ++ kept t x) ∷ calls) s → HoldIn (contents x) (words_at s.words (temp (slots_of m.program c.func) h) n)
+  pub last_hold : (v : View) (w : World) (c : Frame) (calls : List Frame) (s : Memory) (held : List Kept) (t : TypeTree) (x : Value) (h n : ℕ) → length held ≡ h → n ≡ width t → IsOf t x → Stands m v w (hold c (held ++ kept t x) ∷ calls) s → HoldIn (contents x) (words_at s.words (temp (slots_of m.program m.placement c.func) h) n)
   last_hold v w c calls s held t x h n hh wide is g =
-      stand_hold v.homes s.hi w (leaves t) (contents x) (words_at s.words (temp (slots_of m.program c.func) h) n) (count_of t x is ∙ sym (leaves_length t)) (last_stand v w c calls s held t x h n hh wide g)
+      stand_hold v.homes s.hi w (leaves t) (contents x) (words_at s.words (temp (slots_of m.program m.placement c.func) h) n) (count_of t x is ∙ sym (leaves_length t)) (last_stand v w c calls s held t x h n hh wide g)
 
-  pub last_room : (v : View) (w : World) (c : Frame) (calls : List Frame) (s : Memory) (held : List Kept) (t : TypeTree) (x : Value) (h n : ℕ) → length held ≡ h → n ≡ width t → Stands m v w (hold c (held ++ kept t x) ∷ calls) s → temp (slots_of m.program c.func) h + n ≤ length s.words
+  pub last_room : (v : View) (w : World) (c : Frame) (calls : List Frame) (s : Memory) (held : List Kept) (t : TypeTree) (x : Value) (h n : ℕ) → length held ≡ h → n ≡ width t → Stands m v w (hold c (held ++ kept t x) ∷ calls) s → temp (slots_of m.program m.placement c.func) h + n ≤ length s.words
   last_room v w c calls s held t x h n hh wide g = held_room m v w c calls s held [] t x h n hh wide (none_behind v w c calls s held t x g)
 
   -- words go from slots to slots, and slots get zeros
@@ -59,8 +59,8 @@ module _ (m : Built) where
       ap (slice_get (held ++ (address t x path lacks ∷ more))) z ∙ append_new held (address t x path lacks ∷ more) 0
 
   -- a temp that keeps nothing gets a word
-  pub spare_set : (v : View) (w : World) (c : Frame) (calls : List Frame) (s : Memory) (h x : ℕ) → length c.held ≡ h → h < temps_of m.program c.func → Stands m v w (c ∷ calls) s → Stands m v w (c ∷ calls) (sets s (temp (slots_of m.program c.func) h) x)
+  pub spare_set : (v : View) (w : World) (c : Frame) (calls : List Frame) (s : Memory) (h x : ℕ) → length c.held ≡ h → h < temps_of m.program m.placement c.func → Stands m v w (c ∷ calls) s → Stands m v w (c ∷ calls) (sets s (temp (slots_of m.program m.placement c.func) h) x)
   spare_set v w c calls s h x hh room g =
       let long = g.sized.used in
-      subst (λ ws. Stands m v w (c ∷ calls) (record s { words = ws })) (put_one s.words (temp (slots_of m.program c.func) h) x (omega arith))
-      (good_free m.program m.max v w c calls s (temp (slots_of m.program c.func) h) (x ∷ []) (inl (omega arith, omega arith)) g)
+      subst (λ ws. Stands m v w (c ∷ calls) (record s { words = ws })) (put_one s.words (temp (slots_of m.program m.placement c.func) h) x (omega arith))
+      (good_free m.program m.placement m.max v w c calls s (temp (slots_of m.program m.placement c.func) h) (x ∷ []) (inl (omega arith, omega arith)) g)

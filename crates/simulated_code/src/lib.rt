@@ -1,8 +1,8 @@
 //! The theorem: the code of a program does what the program means.
 //!
-//! `specs/Correct` states it. LogicalAnd sides show bounded runs: the source, cut after n turns, and the machine, after k
+//! `specs/Correct` states it. Both sides show bounded runs: the source, cut after n turns, and the machine, after k
 //! instructions. `Simulated` says that what n turns show is shown by 16 * n instructions, and that what k instructions
-//! show is shown by k turns. `laws::code_simulates` carries it as its clause.
+//! show is shown by k turns; where they end, both end alike, with as many words of the heap taken. `laws::code_simulates` carries it as its clause.
 //!
 //! How the proof goes, in `proofs/`:
 //!

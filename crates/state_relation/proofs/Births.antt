@@ -1,5 +1,5 @@
 -- Writes and births.
-use Rattle.std.proofs.Common.{◌≡◌, ◌≢◌, ◌⊎◌, inl, inr, ℕ, ◌+◌, ◌-◌, ◌<◌, ◌≤◌, List, [], ◌∷◌, length, Option, Some, refl, sym, ap, ◌∙◌, subst, arith, get_or, length-append}
+use Rattle.std.proofs.Common.{◌≡◌, ◌≢◌, ◌⊎◌, inl, inr, ℕ, ◌+◌, ◌-◌, ◌<◌, ◌≤◌, List, [], ◌∷◌, length, Option, Some, refl, sym, ap, ◌∙◌, subst, arith, get_or, length-append, false}
 use Rattle.std.specs.Prelude.{slice_get, slice_index}
 use Rattle.std.proofs.lemmas.Option.{slice_get_within}
 use Rattle.std.proofs.lemmas.Bool.{cases_eq}
@@ -9,7 +9,8 @@ use Rattle.typed_syntax.specs.Paths.{with_path, Leads, offset}
 use Rattle.typed_syntax.specs.Words.{Content, contents}
 use Rattle.typed_syntax.specs.Syntax.{Func, Program, site_type}
 use Rattle.typed_syntax.specs.Form.{InScope}
-use Rattle.typed_syntax.specs.Frames.{frame_of}
+use Rattle.frames.specs.Placement.{Placement}
+use Rattle.frames.specs.Frames.{frame_of}
 use Rattle.value_laws.specs.Laws.{PartWords}
 use Rattle.value_laws.proofs.Parts.{with_is, within, part_words}
 use Rattle.meaning.specs.Trace.{World, Cell}
@@ -26,11 +27,11 @@ use Rattle.state_relation.proofs.Leaves.{leaves_length, part_leaf}
 use Rattle.state_relation.proofs.Relation.{Other, site_inside, site_next, site_within, named_within, other_within, apart, sites_apart, held_other, back_other, link_other, Later, stands_later, kept_later, framed_later}
 use Rattle.state_relation.proofs.Changes.{stack_same, stack_heap, not_at_some, not_at_other, not_at_heap, born_new, born_old, home_same, home_other, stands_same}
 
-module _ (p : Program) (max : ℕ) where
+module _ (p : Program) (pl : Placement) (max : ℕ) where
   -- ---- a part of a variable gets a value
 
   module _ (v : View) (w : World) (calls : List Frame) (s : Memory) (x : ℕ) (y : Cell) (path : List ℕ) (t : TypeTree) (val : Value) (xs : List ℕ)
-      (here : slice_get w.store x ≡ Some y) (leads : Leads y.type path t) (is : IsOf t val) (st : Stand v.homes s.hi w (leaves t) (contents val) xs) (g : Good p max v w calls s) where
+      (here : slice_get w.store x ≡ Some y) (leads : Leads y.type path t) (is : IsOf t val) (st : Stand v.homes s.hi w (leaves t) (contents val) xs) (g : Good p pl max v w calls s) where
     abbrev off : ℕ
     off = offset y.type path
 
@@ -76,18 +77,18 @@ module _ (p : Program) (max : ℕ) where
       ends = λ z q lt h. h;
     }
 
-    homed : Homed p v w1 calls
+    homed : Homed p pl v w1 calls
     homed = let h = g.homed in let same = change_length w.store x path val in record {
       sole = λ a b i j ca cb qa qb ea eb ha hb li lj q.
           let oa = old a ca ea in let ob = old b cb eb in
           h.sole a b i j oa.0 ob.0 qa qb oa.1 ob.1 ha hb (subst (λ n. i < width n) (sym oa.2) li) (subst (λ n. j < width n) (sym ob.2) lj) q;
       known = λ z q e. let k = h.known z q e in omega (arith, same, k);
-      stacked = λ z d b e hm. let o = old z b e in subst (λ n. SiteAt p calls d n) o.2 (h.stacked z d o.0 o.1 hm);
+      stacked = λ z d b e hm. let o = old z b e in subst (λ n. SiteAt p pl calls d n) o.2 (h.stacked z d o.0 o.1 hm);
       heaped = λ z k b e hm. let o = old z b e in subst (λ n. k + width n ≤ v.heap) o.2 (h.heaped z k o.0 o.1 hm);
       named = λ z d u n. let r = h.named z d u n in let k = later.keeps z r.0 r.1 in (k.0, k.1, k.2 ∙ r.2);
       slots = h.slots;
       globals = λ n l k. (let r = h.globals n l (omega (arith, same, k)) in let a = later.keeps n r.0 r.1 in (a.0, a.1, a.2 ∙ r.2, r.3));
-      begun = subst (λ n. Begun p calls n) (sym same) h.begun;
+      begun = subst (λ n. Begun p pl calls n) (sym same) h.begun;
       typed = λ z b e. elim (cases_eq z x) [
         | inl q ↦ subst (λ (r : Cell). IsOf r.type r.value) (new_is z b q e) (with_is y.type t y.value val path (h.typed x y here) leads is)
         | inr ne ↦ h.typed z b (old_same z b ne e)
@@ -136,7 +137,7 @@ module _ (p : Program) (max : ℕ) where
             (own j (subst (λ (r : Cell). j < width r.type) (sym f) lt)))
       ]
 
-    pub home_write : (q : Place) → v.homes x ≡ Some q → Good p max v w1 calls (set_place s q off xs)
+    pub home_write : (q : Place) → v.homes x ≡ Some q → Good p pl max v w1 calls (set_place s q off xs)
     home_write (on_heap h) hp =
         let inside = g.homed.heaped x h y here hp in let used = g.sized.heap_used in let z = g.sized in let e = ends in let n = many in
         record {
@@ -144,8 +145,8 @@ module _ (p : Program) (max : ℕ) where
           cells = cell s.words (put_words s.heap (h + off) xs) (on_heap h) hp
               (λ i li. let k : h + (off + i) ≡ h + off + i = omega arith in ap (slice_index (put_words s.heap (h + off) xs)) k ∙ put_in s.heap (h + off) xs i (omega arith) (omega arith))
               far;
-          framed = framed_later p v.homes v.homes s.hi w w1 calls s.words s.words later (λ d o. refl) g.framed;
-          sized = record { used = z.used; heap_used = put_length s.heap (h + off) xs (omega arith) ∙ z.heap_used; asked = z.asked; ends = z.ends; has = z.has; low = z.low; high = z.high; fits = z.fits; small = z.small };
+          framed = framed_later p pl v.homes v.homes s.hi w w1 calls s.words s.words later (λ d o. refl) g.framed;
+          sized = record { used = z.used; heap_used = put_length s.heap (h + off) xs (omega arith) ∙ z.heap_used; asked = z.asked; full = z.full; low = z.low; high = z.high; fits = z.fits; small = z.small };
         }
       where
         far : (z j : ℕ) (b : Cell) (q : Place) → slice_get w.store z ≡ Some b → v.homes z ≡ Some q → j < width b.type → ((i : ℕ) → i < width t → behind q j ≡ behind (on_heap h) (off + i) → ⊥) → word_in s.words (put_words s.heap (h + off) xs) (behind q j) ≡ word_in s.words s.heap (behind q j)
@@ -164,8 +165,8 @@ module _ (p : Program) (max : ℕ) where
         record {
           homed = homed;
           cells = cell words1 s.heap (on_stack d) hp (λ i li. put_same s.words from xs i (d - (off + i)) room_of (omega arith) (let r = site in omega (arith, r.0, r.1))) far;
-          framed = framed_later p v.homes v.homes s.hi w w1 calls s.words words1 later stays g.framed;
-          sized = record { used = put_length s.words from xs room_of ∙ z.used; heap_used = z.heap_used; asked = z.asked; ends = z.ends; has = z.has; low = z.low; high = z.high; fits = z.fits; small = z.small };
+          framed = framed_later p pl v.homes v.homes s.hi w w1 calls s.words words1 later stays g.framed;
+          sized = record { used = put_length s.words from xs room_of ∙ z.used; heap_used = z.heap_used; asked = z.asked; full = z.full; low = z.low; high = z.high; fits = z.fits; small = z.small };
         }
       where
         from : ℕ
@@ -174,16 +175,16 @@ module _ (p : Program) (max : ℕ) where
         words1 : List ℕ
         words1 = put_words s.words from xs
 
-        at_site : SiteAt p calls d y.type
+        at_site : SiteAt p pl calls d y.type
         at_site = g.homed.stacked x d y here hp
 
-        site : (width y.type + 2 ≤ d) × (d ≤ depth p calls)
-        site = site_within p calls d y.type at_site
+        site : (width y.type + 2 ≤ d) × (d ≤ depth p pl calls)
+        site = site_within p pl calls d y.type at_site
 
         room_of : from + length xs ≤ length s.words
         room_of = let r = site in let u = g.sized.used in let m = ends in let n = many in omega (arith, r.0, r.1)
 
-        away : (e : ℕ) → e ≤ depth p calls → ((i : ℕ) → i < width t → e ≡ d - (off + i) → ⊥) → word_at words1 e ≡ word_at s.words e
+        away : (e : ℕ) → e ≤ depth p pl calls → ((i : ℕ) → i < width t → e ≡ d - (off + i) → ⊥) → word_at words1 e ≡ word_at s.words e
         away e le hits =
             let r = site in let u = g.sized.used in let m = ends in let n = many in
             elim (less_or (length s.words - e) from) [
@@ -194,13 +195,13 @@ module _ (p : Program) (max : ℕ) where
               ]
             ]
 
-        stays : (e : ℕ) → Other p calls e → word_at words1 e ≡ word_at s.words e
-        stays e o = let b = other_within p calls e o in let m = ends in away e b.1 (λ i li q. apart p calls d e (off + i) y.type (omega arith) at_site o q)
+        stays : (e : ℕ) → Other p pl calls e → word_at words1 e ≡ word_at s.words e
+        stays e o = let b = other_within p pl calls e o in let m = ends in away e b.1 (λ i li q. apart p pl calls d e (off + i) y.type (omega arith) at_site o q)
 
         far : (z j : ℕ) (b : Cell) (q : Place) → slice_get w.store z ≡ Some b → v.homes z ≡ Some q → j < width b.type → ((i : ℕ) → i < width t → behind q j ≡ behind (on_stack d) (off + i) → ⊥) → word_in words1 s.heap (behind q j) ≡ word_in s.words s.heap (behind q j)
         far z j b (on_heap k) e hq lt hits = refl
         far z j b (on_stack k) e hq lt hits =
-            let r = site_within p calls k b.type (g.homed.stacked z k b e hq) in
+            let r = site_within p pl calls k b.type (g.homed.stacked z k b e hq) in
             away (k - j) (omega (arith, r.1)) (λ i li q. hits i li (ap on_stack q))
 
   -- ---- a variable is born
@@ -226,20 +227,20 @@ module _ (p : Program) (max : ℕ) where
 
   -- sites of a function stand at different distances
   module _ (solid : (site : ℕ) → 0 < width (site_type p site)) where
-    distances_differ : (f : Func) (a b deep : ℕ) → a ≢ b → f.first ≤ a → a < f.first + f.count → f.first ≤ b → b < f.first + f.count → frame_of p f ≤ deep → deep - site_slot (slots_of p f) a ≢ deep - site_slot (slots_of p f) b
-    distances_differ f a b deep ne fa la fb lb room e =
-        let ia = site_inside p f a fa la in let ib = site_inside p f b fb lb in
+    distances_differ : (f : Func) (a b deep : ℕ) → a ≢ b → pl.on_heap a ≡ false → pl.on_heap b ≡ false → f.first ≤ a → a < f.first + f.count → f.first ≤ b → b < f.first + f.count → frame_of p pl f ≤ deep → deep - site_slot (slots_of p pl f) a ≢ deep - site_slot (slots_of p pl f) b
+    distances_differ f a b deep ne sa sb fa la fb lb room e =
+        let ia = site_inside p pl f a sa fa la in let ib = site_inside p pl f b sb fb lb in
         elim (less_or a b) [
-          | inl lt ↦ (let n = site_next p f a b fa lt in let some = solid a in omega (arith, ia.1, ib.1))
+          | inl lt ↦ (let n = site_next p pl f a b sa fa lt in let some = solid a in omega (arith, ia.1, ib.1))
           | inr le ↦ elim (less_or b a) [
-            | inl lt ↦ (let n = site_next p f b a fb lt in let some = solid b in omega (arith, ia.1, ib.1))
+            | inl lt ↦ (let n = site_next p pl f b a sb fb lt in let some = solid b in omega (arith, ia.1, ib.1))
             | inr le1 ↦ ne (omega arith)
           ]
         ]
 
     -- on the stack: the words of a site hold its value
-    module _ (v : View) (w : World) (c : Frame) (calls : List Frame) (s : Memory) (site d : ℕ) (y : Cell) (xs : List ℕ) (first : c.func.first ≤ site) (last : site < c.func.first + c.func.count)
-        (at : d ≡ depth p (c ∷ calls) - site_slot (slots_of p c.func) site) (kind : y.type ≡ site_type p site) (is : IsOf y.type y.value) (st : Stand v.homes s.hi w (leaves y.type) (contents y.value) xs) (g : Good p max v w (c ∷ calls) s) where
+    module _ (v : View) (w : World) (c : Frame) (calls : List Frame) (s : Memory) (site d : ℕ) (y : Cell) (xs : List ℕ) (stays : pl.on_heap site ≡ false) (first : c.func.first ≤ site) (last : site < c.func.first + c.func.count)
+        (at : d ≡ depth p pl (c ∷ calls) - site_slot (slots_of p pl c.func) site) (kind : y.type ≡ site_type p site) (is : IsOf y.type y.value) (st : Stand v.homes s.hi w (leaves y.type) (contents y.value) xs) (g : Good p pl max v w (c ∷ calls) s) where
       abbrev n : ℕ
       n = length w.store
 
@@ -250,7 +251,7 @@ module _ (p : Program) (max : ℕ) where
       homes1 = born_at v.homes v.births d
 
       abbrev slot : ℕ
-      slot = site_slot (slots_of p c.func) site
+      slot = site_slot (slots_of p pl c.func) site
 
       abbrev words2 : List ℕ
       words2 = put_words s.words slot xs
@@ -258,11 +259,11 @@ module _ (p : Program) (max : ℕ) where
       count : length xs ≡ width y.type
       count = st.long ∙ leaves_length y.type
 
-      inside : slot + width y.type + 2 ≤ frame_of p c.func
-      inside = let r = site_inside p c.func site first last in let k = ap width kind in omega (arith, r.1, k)
+      inside : slot + width y.type + 2 ≤ frame_of p pl c.func
+      inside = let r = site_inside p pl c.func site stays first last in let k = ap width kind in omega (arith, r.1, k)
 
-      own_site : SiteAt p (c ∷ calls) d y.type
-      own_site = inl (site, first, last, at, sym kind)
+      own_site : SiteAt p pl (c ∷ calls) d y.type
+      own_site = inl (site, first, last, at, sym kind, stays)
 
       home_new : (x : ℕ) → x ≡ n → homes1 x ≡ Some (on_stack d)
       home_new x q = ap homes1 (q ∙ sym g.homed.births) ∙ born_new v.homes v.births d
@@ -274,7 +275,7 @@ module _ (p : Program) (max : ℕ) where
       later_born = record { keeps = λ x a e. (a, still w y x a e, refl); ends = λ x q less h. let ne : x ≢ n = omega arith in (home_old x q ne h).0 }
 
       -- words elsewhere stay
-      elsewhere : (e : ℕ) → e ≤ depth p (c ∷ calls) → ((j : ℕ) → j < width y.type → e ≡ d - j → ⊥) → word_at words2 e ≡ word_at s.words e
+      elsewhere : (e : ℕ) → e ≤ depth p pl (c ∷ calls) → ((j : ℕ) → j < width y.type → e ≡ d - j → ⊥) → word_at words2 e ≡ word_at s.words e
       elsewhere e le far =
           let u = g.sized.used in let r = inside in let k = count in
           let fits : slot + length xs ≤ length s.words = omega arith in
@@ -286,8 +287,8 @@ module _ (p : Program) (max : ℕ) where
             ]
           ]
 
-      others_stay : (e : ℕ) → Other p (c ∷ calls) e → word_at words2 e ≡ word_at s.words e
-      others_stay e o = let b = other_within p (c ∷ calls) e o in elsewhere e b.1 (λ j lj q. apart p (c ∷ calls) d e j y.type lj own_site o q)
+      others_stay : (e : ℕ) → Other p pl (c ∷ calls) e → word_at words2 e ≡ word_at s.words e
+      others_stay e o = let b = other_within p pl (c ∷ calls) e o in elsewhere e b.1 (λ j lj q. apart p pl (c ∷ calls) d e j y.type lj own_site o q)
 
       cell_born : (x j : ℕ) (a : Cell) (q : Place) → slice_get w2.store x ≡ Some a → homes1 x ≡ Some q → j < width a.type → StandsFor homes1 s.hi w2 (leaf a.type j) (get_or (contents a.value) j nothing) (word_in words2 s.heap (behind q j))
       cell_born x j a q e hq lt = elim (cases_eq x n) [ inl k ↦ fresh_one k | inr ne ↦ old_one ne (home_old x q ne hq) ]
@@ -306,8 +307,8 @@ module _ (p : Program) (max : ℕ) where
           same : (r : Place) → x ≢ n → (v.homes x ≡ Some r) × (r ≡ on_stack d → ⊥) → word_in words2 s.heap (behind r j) ≡ word_in s.words s.heap (behind r j)
           same (on_heap k) ne o = refl
           same (on_stack k) ne o =
-              let there = g.homed.stacked x k a (get_old w y x a ne e) o.0 in let b = site_within p (c ∷ calls) k a.type there in
-              elsewhere (k - j) (omega (arith, b.1)) (λ i li r. o.1 (ap on_stack (sites_apart p (c ∷ calls) k d j i a.type y.type lt li there own_site r).0))
+              let there = g.homed.stacked x k a (get_old w y x a ne e) o.0 in let b = site_within p pl (c ∷ calls) k a.type there in
+              elsewhere (k - j) (omega (arith, b.1)) (λ i li r. o.1 (ap on_stack (sites_apart p pl (c ∷ calls) k d j i a.type y.type lt li there own_site r).0))
 
           old_one : x ≢ n → (v.homes x ≡ Some q) × (q ≡ on_stack d → ⊥) → StandsFor homes1 s.hi w2 (leaf a.type j) (get_or (contents a.value) j nothing) (word_in words2 s.heap (behind q j))
           old_one ne o =
@@ -318,7 +319,7 @@ module _ (p : Program) (max : ℕ) where
       clash : (x j i : ℕ) (a : Cell) (q : Place) → slice_get w.store x ≡ Some a → (v.homes x ≡ Some q) × (q ≡ on_stack d → ⊥) → j < width a.type → i < width y.type → behind q j ≡ on_stack (d - i) → ⊥
       clash x j i a (on_heap k) e o lj li r = stack_heap (d - i) (k + j) (sym r)
       clash x j i a (on_stack k) e o lj li r =
-          o.1 (ap on_stack (sites_apart p (c ∷ calls) k d j i a.type y.type lj li (g.homed.stacked x k a e o.0) own_site (stack_same (k - j) (d - i) r)).0)
+          o.1 (ap on_stack (sites_apart p pl (c ∷ calls) k d j i a.type y.type lj li (g.homed.stacked x k a e o.0) own_site (stack_same (k - j) (d - i) r)).0)
 
       one_home : (x z i j : ℕ) (a b : Cell) (q r : Place) → slice_get w2.store x ≡ Some a → slice_get w2.store z ≡ Some b → homes1 x ≡ Some q → homes1 z ≡ Some r → i < width a.type → j < width b.type → behind q i ≡ behind r j → (x ≡ z) × (i ≡ j)
       one_home x z i j a b q r ea eb hq hr li lj e = elim (cases_eq x n) [
@@ -343,13 +344,13 @@ module _ (p : Program) (max : ℕ) where
               (kx ∙ sym kz, omega (arith, k, at))
 
       -- a name of before, or the new one
-      name_cases : (x e : ℕ) (u : TypeTree) → NamedAt p (grown c site n ∷ calls) x e u → ((x ≡ n) × (e ≡ d) × (y.type ≡ u)) ⊎ (NamedAt p (c ∷ calls) x e u × (e ≢ d))
-      name_cases x e u (inr m) = let r = named_within p calls x e u m in let k = inside in inr (inr m, omega (arith, r, at))
+      name_cases : (x e : ℕ) (u : TypeTree) → NamedAt p pl (grown c site n ∷ calls) x e u → ((x ≡ n) × (e ≡ d) × (y.type ≡ u)) ⊎ (NamedAt p pl (c ∷ calls) x e u × (e ≢ d))
+      name_cases x e u (inr m) = let r = named_within p pl calls x e u m in let k = inside in inr (inr m, omega (arith, r, at))
       name_cases x e u (inl m) = elim (cases_eq m.0 site) [
-        | inl q ↦ inl (m.2 ∙ ap (with_home c.env site n) q ∙ home_same c.env site n, m.3 ∙ ap (λ j. depth p (c ∷ calls) - site_slot (slots_of p c.func) j) q ∙ sym at, kind ∙ ap (site_type p) (sym q) ∙ m.4)
+        | inl q ↦ inl (m.2 ∙ ap (with_home c.env site n) q ∙ home_same c.env site n, m.3 ∙ ap (λ j. depth p pl (c ∷ calls) - site_slot (slots_of p pl c.func) j) q ∙ sym at, kind ∙ ap (site_type p) (sym q) ∙ m.4)
         | inr ne ↦ (
             let i = in_scope m.0 ne m.1 in let a = g.homed.owned.0.among m.0 i in
-            inr (inl (m.0, i, m.2 ∙ home_other c.env site n m.0 ne, m.3, m.4), λ k. distances_differ c.func m.0 site (depth p (c ∷ calls)) ne a.0 a.1 first last (omega arith) (sym m.3 ∙ k ∙ at))
+            inr (inl (m.0, i, m.2 ∙ home_other c.env site n m.0 ne, m.3, m.4, m.5), λ k. distances_differ c.func m.0 site (depth p pl (c ∷ calls)) ne m.5 stays a.0 a.1 first last (omega arith) (sym m.3 ∙ k ∙ at))
             )
       ]
         where
@@ -357,10 +358,10 @@ module _ (p : Program) (max : ℕ) where
           in_scope k ne (inl q) = absurd (ne q)
           in_scope k ne (inr i) = i
 
-      old_name : (x e : ℕ) (u : TypeTree) → NamedAt p (c ∷ calls) x e u → x ≢ n
+      old_name : (x e : ℕ) (u : TypeTree) → NamedAt p pl (c ∷ calls) x e u → x ≢ n
       old_name x e u m = let r = g.homed.named x e u m in let k = slice_get_within w.store x r.0 r.1 in omega arith
 
-      pub birth : Good p max (after_stack v d) w2 (grown c site n ∷ calls) (puts s slot xs)
+      pub birth : Good p pl max (after_stack v d) w2 (grown c site n ∷ calls) (puts s slot xs)
       birth = record {
         homed = let h = g.homed in let long = born_length w y in record {
           sole = one_home;
@@ -368,7 +369,7 @@ module _ (p : Program) (max : ℕ) where
           stacked = λ x e a ea hq. elim (cases_eq x n) [
             | inl k ↦
                 let f = stack_same d e (some_same (sym (home_new x k) ∙ hq)) in
-                subst (λ m. SiteAt p (c ∷ calls) m a.type) f (subst (λ (r : Cell). SiteAt p (c ∷ calls) d r.type) (get_new w y x a k ea) own_site)
+                subst (λ m. SiteAt p pl (c ∷ calls) m a.type) f (subst (λ (r : Cell). SiteAt p pl (c ∷ calls) d r.type) (get_new w y x a k ea) own_site)
             | inr ne ↦ h.stacked x e a (get_old w y x a ne ea) (home_old x _ ne hq).0
           ];
           heaped = λ x k a ea hq. elim (cases_eq x n) [
@@ -393,11 +394,11 @@ module _ (p : Program) (max : ℕ) where
         };
         cells = cell_born;
         framed = record {
-          kept = λ e k m. subst (λ u. StandsKept homes1 s.hi w2 k u) (sym (others_stay e (held_other p (c ∷ calls) e k m))) (kept_later v.homes homes1 s.hi w w2 k _ later_born (g.framed.kept e k m));
-          backs = λ e m b. others_stay e (back_other p (c ∷ calls) e m b) ∙ g.framed.backs e m b;
-          links = λ e m b. others_stay e (link_other p (c ∷ calls) e m b) ∙ g.framed.links e m b;
+          kept = λ e k m. subst (λ u. StandsKept homes1 s.hi w2 k u) (sym (others_stay e (held_other p pl (c ∷ calls) e k m))) (kept_later v.homes homes1 s.hi w w2 k _ later_born (g.framed.kept e k m));
+          backs = λ e m b. others_stay e (back_other p pl (c ∷ calls) e m b) ∙ g.framed.backs e m b;
+          links = λ e m b. others_stay e (link_other p pl (c ∷ calls) e m b) ∙ g.framed.links e m b;
         };
-        sized = let z = g.sized in let u = g.sized.used in let r = inside in let k = count in record { used = put_length s.words slot xs (omega arith) ∙ z.used; heap_used = z.heap_used; asked = z.asked; ends = z.ends; has = z.has; low = z.low; high = z.high; fits = z.fits; small = z.small };
+        sized = let z = g.sized in let u = g.sized.used in let r = inside in let k = count in record { used = put_length s.words slot xs (omega arith) ∙ z.used; heap_used = z.heap_used; asked = z.asked; full = z.full; low = z.low; high = z.high; fits = z.fits; small = z.small };
       }
         where
           scoped : (k : ℕ) → InScope k (site ∷ c.scope) → (c.func.first ≤ k) × (k < c.func.first + c.func.count)

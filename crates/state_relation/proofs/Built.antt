@@ -4,18 +4,19 @@ use Rattle.std.specs.Prelude.{slice_get}
 use Rattle.typed_syntax.specs.Types.{width}
 use Rattle.typed_syntax.specs.Syntax.{Func, Program, site_type}
 use Rattle.typed_syntax.specs.Form.{FuncFits}
-use Rattle.typed_syntax.specs.Placement.{on_heap}
-use Rattle.typed_syntax.specs.Frames.{frame_in, frame_of}
+use Rattle.frames.specs.Placement.{Placement, IsPlaced}
+use Rattle.frames.specs.Frames.{frame_in, frame_of}
 use Rattle.meaning.specs.Meaning.{Item}
 use Rattle.meaning.specs.Output.{Limits}
 use Rattle.isa.specs.Code.{Tables}
 use Rattle.program_code.proofs.Compiled.{Compiled}
 use Rattle.state_relation.specs.Alike.{AreNumbers}
 
--- A program in form, its code, the most words that the stack and the heap may have, and the items of the input. No site of a
--- function is one of the package.
+-- A program in form, which variables live on the heap, its code, the most words that the stack and the heap may have, and the items of
+-- the input.
 pub record Built : Type 0 where
   pub program : Program
+  pub placement : Placement
   pub code : Tables
   pub max : ℕ
   pub heap_max : ℕ
@@ -24,15 +25,15 @@ pub record Built : Type 0 where
   pub items : ℕ → Item
   pub fits : (f : ℕ) (func : Func) → slice_get program.funcs f ≡ Some func → FuncFits program func
   pub solid : (site : ℕ) → 0 < width (site_type program site)
-  pub stacked : (f : ℕ) (func : Func) → slice_get program.funcs f ≡ Some func → (site : ℕ) → func.first ≤ site → site < func.first + func.count → on_heap program site ≡ false
+  pub placed : IsPlaced program placement
   pub strings : code.strings ≡ program.strings
   pub numbers : AreNumbers items
-  pub compiled : Compiled program code
+  pub compiled : Compiled program placement code
 
 module _ (m : Built) where
   -- the limits under which its source runs
   abbrev pub limits_of : Limits
-  limits_of = record { frame = λ f. frame_in m.program (slice_get m.program.funcs f); on_heap = on_heap m.program; stack_max = m.max; heap_max = m.heap_max }
+  limits_of = record { frame = λ f. frame_in m.program m.placement (slice_get m.program.funcs f); on_heap = m.placement.on_heap; stack_max = m.max; heap_max = m.heap_max }
 
-  pub frames_are : (f : ℕ) (func : Func) → slice_get m.program.funcs f ≡ Some func → limits_of.frame f ≡ frame_of m.program func
-  frames_are f func named = ap (frame_in m.program) named
+  pub frames_are : (f : ℕ) (func : Func) → slice_get m.program.funcs f ≡ Some func → limits_of.frame f ≡ frame_of m.program m.placement func
+  frames_are f func named = ap (frame_in m.program m.placement) named

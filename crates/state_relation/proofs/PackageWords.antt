@@ -4,6 +4,7 @@ use Rattle.std.proofs.lemmas.List.{length-map}
 use Rattle.typed_syntax.specs.Types.{TypeTree, ints, width}
 use Rattle.typed_syntax.specs.Value.{Value, int}
 use Rattle.typed_syntax.specs.Syntax.{Func, Program, global_type}
+use Rattle.frames.specs.Placement.{Placement}
 use Rattle.program_code.specs.Code as Code
 use Rattle.program_code.specs.Code.{globals_before, slots_of}
 use Rattle.state_relation.specs.Relation.{sites_of, words_before, all_words}
@@ -18,8 +19,8 @@ site_is (x ∷ gs) zero = refl
 site_is (x ∷ gs) (suc g) = site_is gs g
 
 -- the code and the source tell the same types
-pub type_is : (p : Program) (f : Func) (g : ℕ) → Code.global_type (slots_of p f) g ≡ global_type p g
-type_is p f g = ap (λ site. get_or p.sites site ints) (site_is p.globals g)
+pub type_is : (p : Program) (pl : Placement) (f : Func) (g : ℕ) → Code.global_type (slots_of p pl f) g ≡ global_type p g
+type_is p pl f g = ap (λ site. get_or p.sites site ints) (site_is p.globals g)
 
 -- each stands before the later ones
 before_next : (sites : List TypeTree) (xs : List ℕ) (g h : ℕ) → g < h → h ≤ length xs

@@ -1,12 +1,13 @@
 -- Where the words of frames lie among each other, and what stands for the same while the world grows.
-use Rattle.std.proofs.Common.{◌≡◌, ◌≢◌, ◌⊎◌, inl, inr, ℕ, ◌+◌, ◌-◌, ◌<◌, ◌≤◌, List, [], ◌∷◌, length, Option, Some, refl, sym, ap, ◌∙◌, subst, arith, get_or}
+use Rattle.std.proofs.Common.{◌≡◌, ◌≢◌, ◌⊎◌, inl, inr, ℕ, ◌+◌, ◌-◌, ◌<◌, ◌≤◌, false, List, [], ◌∷◌, length, Option, Some, refl, sym, ap, ◌∙◌, subst, arith, get_or}
 use Rattle.std.specs.Prelude.{slice_get, slice_index}
 use Rattle.std.proofs.lemmas.Option.{slice_get_within}
 use Rattle.std.proofs.lemmas.Bool.{cases_eq}
 use Rattle.typed_syntax.specs.Types.{TypeTree, ints, bools, struct_of, array_of, width}
 use Rattle.typed_syntax.specs.Words.{Content, number, truth}
 use Rattle.typed_syntax.specs.Syntax.{Func, Program, site_width}
-use Rattle.typed_syntax.specs.Frames.{outgoing_of, temps_of, frame_of}
+use Rattle.frames.specs.Placement.{Placement}
+use Rattle.frames.specs.Frames.{outgoing_of, temps_of, frame_of}
 use Rattle.typed_syntax.specs.Paths.{Leads, offset}
 use Rattle.meaning.specs.Trace.{World, Cell}
 use Rattle.meaning.specs.Output.{Limits, used_by}
@@ -17,96 +18,96 @@ use Rattle.state_relation.specs.Relation.{Kept, word, address, spent, Frame, num
 use Rattle.state_relation.proofs.Lists.{less_or}
 
 -- a site of a function stands above its temps and below the link
-pub site_inside : (p : Program) (f : Func) (site : ℕ) → f.first ≤ site → site < f.first + f.count → (outgoing_of p f + temps_of p f ≤ site_slot (slots_of p f) site) × (site_slot (slots_of p f) site + site_width p site + 2 ≤ frame_of p f)
-site_inside p f site from to = let r = site_among p f site from to in (omega arith, omega arith)
+pub site_inside : (p : Program) (pl : Placement) (f : Func) (site : ℕ) → pl.on_heap site ≡ false → f.first ≤ site → site < f.first + f.count → (outgoing_of p f + temps_of p pl f ≤ site_slot (slots_of p pl f) site) × (site_slot (slots_of p pl f) site + site_width p site + 2 ≤ frame_of p pl f)
+site_inside p pl f site stays from to = let r = site_among p pl f site stays from to in (omega arith, omega arith)
 
 -- its words stand before those of a later one
-pub site_next : (p : Program) (f : Func) (a b : ℕ) → f.first ≤ a → a < b → site_slot (slots_of p f) a + site_width p a ≤ site_slot (slots_of p f) b
-site_next p f a b from lt = let r = site_before p f.first a b from lt in omega arith
+pub site_next : (p : Program) (pl : Placement) (f : Func) (a b : ℕ) → pl.on_heap a ≡ false → f.first ≤ a → a < b → site_slot (slots_of p pl f) a + site_width p a ≤ site_slot (slots_of p pl f) b
+site_next p pl f a b stays from lt = let r = site_before p pl f.first a b stays from lt in omega arith
 
-module _ (p : Program) where
+module _ (p : Program) (pl : Placement) where
   -- a word of the frames that is needed: not of the newest outgoing area, and not of a free temp
   abbrev pub Needed : List Frame → ℕ → Type 0
   Needed [] d = ⊥
   Needed (c ∷ calls) d =
-      ((depth p calls < d) × (d + outgoing_of p c.func ≤ depth p (c ∷ calls)) × ((depth p (c ∷ calls) < d + outgoing_of p c.func + length c.held) ⊎ (d + (outgoing_of p c.func + temps_of p c.func) ≤ depth p (c ∷ calls)))) ⊎ Needed calls d
+      ((depth p pl calls < d) × (d + outgoing_of p c.func ≤ depth p pl (c ∷ calls)) × ((depth p pl (c ∷ calls) < d + outgoing_of p c.func + length c.held) ⊎ (d + (outgoing_of p c.func + temps_of p pl c.func) ≤ depth p pl (c ∷ calls)))) ⊎ Needed calls d
 
   -- one that is no variable's
   abbrev pub Other : List Frame → ℕ → Type 0
   Other [] d = ⊥
   Other (c ∷ calls) d =
-      ((depth p calls < d) × (d + outgoing_of p c.func ≤ depth p (c ∷ calls)) × (((depth p (c ∷ calls) < d + outgoing_of p c.func + length c.held) × (depth p (c ∷ calls) < d + outgoing_of p c.func + temps_of p c.func)) ⊎ (d ≤ depth p calls + 2))) ⊎ Other calls d
+      ((depth p pl calls < d) × (d + outgoing_of p c.func ≤ depth p pl (c ∷ calls)) × (((depth p pl (c ∷ calls) < d + outgoing_of p c.func + length c.held) × (depth p pl (c ∷ calls) < d + outgoing_of p c.func + temps_of p pl c.func)) ⊎ (d ≤ depth p pl calls + 2))) ⊎ Other calls d
 
-  pub site_within : (calls : List Frame) (d : ℕ) (t : TypeTree) → SiteAt p calls d t → (width t + 2 ≤ d) × (d ≤ depth p calls)
+  pub site_within : (calls : List Frame) (d : ℕ) (t : TypeTree) → SiteAt p pl calls d t → (width t + 2 ≤ d) × (d ≤ depth p pl calls)
   site_within [] d t h = absurd h
-  site_within (c ∷ calls) d t (inl h) = let r = site_inside p c.func h.0 h.1 h.2 in let w = ap width h.4 in (omega (arith, r.1, w, h.3), omega (arith, h.3))
+  site_within (c ∷ calls) d t (inl h) = let r = site_inside p pl c.func h.0 h.5 h.1 h.2 in let w = ap width h.4 in (omega (arith, r.1, w, h.3), omega (arith, h.3))
   site_within (c ∷ calls) d t (inr h) = let r = site_within calls d t h in (r.0, omega (arith, r.1))
 
-  pub named_within : (calls : List Frame) (x d : ℕ) (t : TypeTree) → NamedAt p calls x d t → d ≤ depth p calls
+  pub named_within : (calls : List Frame) (x d : ℕ) (t : TypeTree) → NamedAt p pl calls x d t → d ≤ depth p pl calls
   named_within [] x d t h = absurd h
   named_within (c ∷ calls) x d t (inl h) = omega (arith, h.3)
   named_within (c ∷ calls) x d t (inr h) = let r = named_within calls x d t h in omega arith
 
-  pub other_within : (calls : List Frame) (d : ℕ) → Other calls d → (0 < d) × (d ≤ depth p calls)
+  pub other_within : (calls : List Frame) (d : ℕ) → Other calls d → (0 < d) × (d ≤ depth p pl calls)
   other_within [] d h = absurd h
   other_within (c ∷ calls) d (inl h) = (omega (arith, h.0), omega (arith, h.1))
   other_within (c ∷ calls) d (inr h) = let r = other_within calls d h in (r.0, omega (arith, r.1))
 
-  pub needed_within : (calls : List Frame) (d : ℕ) → Needed calls d → d ≤ depth p calls
+  pub needed_within : (calls : List Frame) (d : ℕ) → Needed calls d → d ≤ depth p pl calls
   needed_within [] d h = absurd h
   needed_within (c ∷ calls) d (inl h) = omega (arith, h.1)
   needed_within (c ∷ calls) d (inr h) = let r = needed_within calls d h in omega arith
 
   -- no word of a variable is another needed word
-  pub apart : (calls : List Frame) (d e j : ℕ) (t : TypeTree) → j < width t → SiteAt p calls d t → Other calls e → e ≡ d - j → ⊥
+  pub apart : (calls : List Frame) (d e j : ℕ) (t : TypeTree) → j < width t → SiteAt p pl calls d t → Other calls e → e ≡ d - j → ⊥
   apart [] d e j t lt s o q = s
   apart (c ∷ calls) d e j t lt (inl s) (inl o) q = by o.2
     where
-      by : ((depth p (c ∷ calls) < e + outgoing_of p c.func + length c.held) × (depth p (c ∷ calls) < e + outgoing_of p c.func + temps_of p c.func)) ⊎ (e ≤ depth p calls + 2) → ⊥
-      by (inl h) = let r = site_inside p c.func s.0 s.1 s.2 in let w = ap width s.4 in omega (arith, r.0, r.1, w, s.3, h.1, q)
-      by (inr h) = let r = site_inside p c.func s.0 s.1 s.2 in let w = ap width s.4 in omega (arith, r.1, w, s.3, h, q)
+      by : ((depth p pl (c ∷ calls) < e + outgoing_of p c.func + length c.held) × (depth p pl (c ∷ calls) < e + outgoing_of p c.func + temps_of p pl c.func)) ⊎ (e ≤ depth p pl calls + 2) → ⊥
+      by (inl h) = let r = site_inside p pl c.func s.0 s.5 s.1 s.2 in let w = ap width s.4 in omega (arith, r.0, r.1, w, s.3, h.1, q)
+      by (inr h) = let r = site_inside p pl c.func s.0 s.5 s.1 s.2 in let w = ap width s.4 in omega (arith, r.1, w, s.3, h, q)
   apart (c ∷ calls) d e j t lt (inl s) (inr o) q =
-      let b = other_within calls e o in let r = site_inside p c.func s.0 s.1 s.2 in let w = ap width s.4 in omega (arith, r.1, w, s.3, b.1, q)
+      let b = other_within calls e o in let r = site_inside p pl c.func s.0 s.5 s.1 s.2 in let w = ap width s.4 in omega (arith, r.1, w, s.3, b.1, q)
   apart (c ∷ calls) d e j t lt (inr s) (inl o) q = let r = site_within calls d t s in omega (arith, o.0, r.1, q)
   apart (c ∷ calls) d e j t lt (inr s) (inr o) q = apart calls d e j t lt s o q
 
   -- words of two sites are apart
-  pub sites_apart : (calls : List Frame) (d e i j : ℕ) (t u : TypeTree) → i < width t → j < width u → SiteAt p calls d t → SiteAt p calls e u → d - i ≡ e - j → (d ≡ e) × (i ≡ j)
+  pub sites_apart : (calls : List Frame) (d e i j : ℕ) (t u : TypeTree) → i < width t → j < width u → SiteAt p pl calls d t → SiteAt p pl calls e u → d - i ≡ e - j → (d ≡ e) × (i ≡ j)
   sites_apart [] d e i j t u li lj s r q = absurd s
   sites_apart (c ∷ calls) d e i j t u li lj (inl s) (inl r) q =
-      let a = site_inside p c.func s.0 s.1 s.2 in let b = site_inside p c.func r.0 r.1 r.2 in let wa = ap width s.4 in let wb = ap width r.4 in
+      let a = site_inside p pl c.func s.0 s.5 s.1 s.2 in let b = site_inside p pl c.func r.0 r.5 r.1 r.2 in let wa = ap width s.4 in let wb = ap width r.4 in
       elim (cases_eq s.0 r.0) [
         | inl same ↦ (
-            let k : d ≡ e = s.3 ∙ ap (λ n. depth p (c ∷ calls) - site_slot (slots_of p c.func) n) same ∙ sym r.3 in
+            let k : d ≡ e = s.3 ∙ ap (λ n. depth p pl (c ∷ calls) - site_slot (slots_of p pl c.func) n) same ∙ sym r.3 in
             (k, omega (arith, k, q, a.1, b.1, wa, wb, s.3, r.3))
             )
         | inr ne ↦ absurd (elim (less_or s.0 r.0) [
-          | inl lt ↦ (let n = site_next p c.func s.0 r.0 s.1 lt in omega (arith, n, a.1, b.1, wa, wb, s.3, r.3, q))
-          | inr le ↦ (let lt : r.0 < s.0 = strict s.0 r.0 le ne in let n = site_next p c.func r.0 s.0 r.1 lt in omega (arith, n, a.1, b.1, wa, wb, s.3, r.3, q))
+          | inl lt ↦ (let n = site_next p pl c.func s.0 r.0 s.5 s.1 lt in omega (arith, n, a.1, b.1, wa, wb, s.3, r.3, q))
+          | inr le ↦ (let lt : r.0 < s.0 = strict s.0 r.0 le ne in let n = site_next p pl c.func r.0 s.0 r.5 r.1 lt in omega (arith, n, a.1, b.1, wa, wb, s.3, r.3, q))
         ])
       ]
     where
       strict : (x z : ℕ) → z ≤ x → x ≢ z → z < x
       strict x z le ne = elim (less_or z x) [ inl l ↦ l | inr l ↦ absurd (ne (omega arith)) ]
   sites_apart (c ∷ calls) d e i j t u li lj (inl s) (inr r) q =
-      let b = site_within calls e u r in let a = site_inside p c.func s.0 s.1 s.2 in let wa = ap width s.4 in absurd (omega (arith, a.1, wa, s.3, b.1, q))
+      let b = site_within calls e u r in let a = site_inside p pl c.func s.0 s.5 s.1 s.2 in let wa = ap width s.4 in absurd (omega (arith, a.1, wa, s.3, b.1, q))
   sites_apart (c ∷ calls) d e i j t u li lj (inr s) (inl r) q =
-      let b = site_within calls d t s in let a = site_inside p c.func r.0 r.1 r.2 in let wa = ap width r.4 in absurd (omega (arith, a.1, wa, r.3, b.1, q))
+      let b = site_within calls d t s in let a = site_inside p pl c.func r.0 r.5 r.1 r.2 in let wa = ap width r.4 in absurd (omega (arith, a.1, wa, r.3, b.1, q))
   sites_apart (c ∷ calls) d e i j t u li lj (inr s) (inr r) q = sites_apart calls d e i j t u li lj s r q
 
-  pub held_other : (calls : List Frame) (d : ℕ) (k : Kept) → HeldAt p calls d k → Other calls d
+  pub held_other : (calls : List Frame) (d : ℕ) (k : Kept) → HeldAt p pl calls d k → Other calls d
   held_other [] d k h = h
   held_other (c ∷ calls) d k (inl h) =
       let n = slice_get_within c.held h.0 k h.3 in
       inl (omega (arith, h.1, h.2), omega (arith, h.1, h.2), inl (omega (arith, h.1, h.2, n), omega (arith, h.1, h.2)))
   held_other (c ∷ calls) d k (inr h) = inr (held_other calls d k h)
 
-  pub back_other : (calls : List Frame) (d n : ℕ) → BackAt p calls d n → Other calls d
+  pub back_other : (calls : List Frame) (d n : ℕ) → BackAt p pl calls d n → Other calls d
   back_other [] d n h = h
   back_other (c ∷ calls) d n (inl h) = inl (omega (arith, h.0), omega (arith, h.0), inr (omega (arith, h.0)))
   back_other (c ∷ calls) d n (inr h) = inr (back_other calls d n h)
 
-  pub link_other : (calls : List Frame) (d : ℕ) (e : Option ℕ) → LinkAt p calls d e → Other calls d
+  pub link_other : (calls : List Frame) (d : ℕ) (e : Option ℕ) → LinkAt p pl calls d e → Other calls d
   link_other [] d e h = h
   link_other (c ∷ calls) d e (inl h) = inl (omega (arith, h.0), omega (arith, h.0), inr (omega (arith, h.0)))
   link_other (c ∷ calls) d e (inr h) = inr (link_other calls d e h)
@@ -116,22 +117,22 @@ module _ (p : Program) where
   other_needed (c ∷ calls) d (inr h) = inr (other_needed calls d h)
   other_needed (c ∷ calls) d (inl h) = inl (h.0, h.1, by h.2)
     where
-      by : ((depth p (c ∷ calls) < d + outgoing_of p c.func + length c.held) × (depth p (c ∷ calls) < d + outgoing_of p c.func + temps_of p c.func)) ⊎ (d ≤ depth p calls + 2) → (depth p (c ∷ calls) < d + outgoing_of p c.func + length c.held) ⊎ (d + (outgoing_of p c.func + temps_of p c.func) ≤ depth p (c ∷ calls))
+      by : ((depth p pl (c ∷ calls) < d + outgoing_of p c.func + length c.held) × (depth p pl (c ∷ calls) < d + outgoing_of p c.func + temps_of p pl c.func)) ⊎ (d ≤ depth p pl calls + 2) → (depth p pl (c ∷ calls) < d + outgoing_of p c.func + length c.held) ⊎ (d + (outgoing_of p c.func + temps_of p pl c.func) ≤ depth p pl (c ∷ calls))
       by (inl o) = inl o.0
       by (inr o) = inr (omega (arith, o))
 
-  pub site_needed : (calls : List Frame) (d j : ℕ) (t : TypeTree) → j < width t → SiteAt p calls d t → Needed calls (d - j)
+  pub site_needed : (calls : List Frame) (d j : ℕ) (t : TypeTree) → j < width t → SiteAt p pl calls d t → Needed calls (d - j)
   site_needed [] d j t lt h = h
   site_needed (c ∷ calls) d j t lt (inl h) =
-      let r = site_inside p c.func h.0 h.1 h.2 in let w = ap width h.4 in
+      let r = site_inside p pl c.func h.0 h.5 h.1 h.2 in let w = ap width h.4 in
       inl (omega (arith, h.3, r.1, w), omega (arith, h.3, r.0), inr (omega (arith, h.3, r.0)))
   site_needed (c ∷ calls) d j t lt (inr h) = inr (site_needed calls d j t lt h)
 
   -- the words in use are those of the running functions
-  pub used : (l : Limits) (frames : (f : ℕ) (func : Func) → slice_get p.funcs f ≡ Some func → l.frame f ≡ frame_of p func) (calls : List Frame) → AllOwn p calls → used_by l (numbers calls) ≡ depth p calls
+  pub used : (l : Limits) (frames : (f : ℕ) (func : Func) → slice_get p.funcs f ≡ Some func → l.frame f ≡ frame_of p pl func) (calls : List Frame) → AllOwn p pl calls → used_by l (numbers calls) ≡ depth p pl calls
   used l frames [] own = refl
   used l frames (c ∷ calls) own =
-      ap (λ n. n + used_by l (numbers calls)) (frames c.fn c.func own.0.named) ∙ ap (λ n. frame_of p c.func + n) (used l frames calls own.1)
+      ap (λ n. n + used_by l (numbers calls)) (frames c.fn c.func own.0.named) ∙ ap (λ n. frame_of p pl c.func + n) (used l frames calls own.1)
 
 -- words stand for the same while the world grows and homes only end
 pub record Later (homes homes1 : ℕ → Option Place) (w w1 : World) : Type 0 where
@@ -167,9 +168,9 @@ pub stand_later : (homes homes1 : ℕ → Option Place) (hi : ℕ) (w w1 : World
 stand_later homes homes1 hi w w1 ls cs xs l s = record { long = s.long; each = λ j lt. stands_later homes homes1 hi w w1 (get_or ls j ints) (get_or cs j nothing) (slice_index xs j) l (s.each j lt) }
 
 -- the other words of frames stay, while the world grows and homes only end
-pub framed_later : (p : Program) (homes homes1 : ℕ → Option Place) (hi : ℕ) (w w1 : World) (calls : List Frame) (words words1 : List ℕ) → Later homes homes1 w w1 → ((d : ℕ) → Other p calls d → word_at words1 d ≡ word_at words d) → Framed p homes hi w calls words → Framed p homes1 hi w1 calls words1
-framed_later p homes homes1 hi w w1 calls words words1 l same f = record {
-  kept = λ d k h. subst (λ u. StandsKept homes1 hi w1 k u) (sym (same d (held_other p calls d k h))) (kept_later homes homes1 hi w w1 k _ l (f.kept d k h));
-  backs = λ d n h. same d (back_other p calls d n h) ∙ f.backs d n h;
-  links = λ d e h. same d (link_other p calls d e h) ∙ f.links d e h;
+pub framed_later : (p : Program) (pl : Placement) (homes homes1 : ℕ → Option Place) (hi : ℕ) (w w1 : World) (calls : List Frame) (words words1 : List ℕ) → Later homes homes1 w w1 → ((d : ℕ) → Other p pl calls d → word_at words1 d ≡ word_at words d) → Framed p pl homes hi w calls words → Framed p pl homes1 hi w1 calls words1
+framed_later p pl homes homes1 hi w w1 calls words words1 l same f = record {
+  kept = λ d k h. subst (λ u. StandsKept homes1 hi w1 k u) (sym (same d (held_other p pl calls d k h))) (kept_later homes homes1 hi w w1 k _ l (f.kept d k h));
+  backs = λ d n h. same d (back_other p pl calls d n h) ∙ f.backs d n h;
+  links = λ d e h. same d (link_other p pl calls d e h) ∙ f.links d e h;
 }

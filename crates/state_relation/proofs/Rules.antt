@@ -4,10 +4,10 @@ use Rattle.std.proofs.Common.{◌≡◌, ℕ, zero, suc, ◌+◌, ◌-◌, ◌<�
 use Rattle.std.specs.Prelude.{slice_get, slice_index, replicate, if◌then◌else◌}
 use Rattle.std.proofs.lemmas.Bool.{le-leb}
 use Rattle.typed_syntax.specs.Syntax.{Func}
-use Rattle.typed_syntax.specs.Frames.{frame_of}
+use Rattle.frames.specs.Frames.{frame_of}
 use Rattle.meaning.specs.Trace.{Read, Write, Print, Asked, Ending, World, Mark, Trace, Turn, Note, Seen, Cut}
 use Rattle.meaning.specs.Output as Output
-use Rattle.meaning.specs.Output.{Sight}
+use Rattle.meaning.specs.Output.{Sight, Last, last}
 use Rattle.simulation.specs.Outcome as Outcome
 use Rattle.simulation.specs.Outcome.{Lines, Gives, Ends, Unfinished}
 use Rattle.simulation.specs.Steps.{Goes, Stops, exec, after}
@@ -15,26 +15,26 @@ use Rattle.simulation.specs.Follows.{Follows}
 use Rattle.simulation.proofs.Rules as Pace
 use Rattle.isa.specs.declared.instr.Instr.{Instr}
 use Rattle.isa.specs.declared.instr.Instr.TheVariants.{ArgumentWords, SetResults}
-use Rattle.machine.specs.Machine.{Event, Printed, State, Does, act, act_on, puts_words, put_words, words_at, reaches, address_of, owner_of, frame_of as code_frame, frame_in as entry_frame}
+use Rattle.machine.specs.Machine.{Event, Printed, State, Last as Stopped, Does, last_of, stops, act, act_on, puts_words, put_words, words_at, reaches, address_of, owner_of, frame_of as code_frame, frame_in as entry_frame}
 use Rattle.machine.specs.declared.run_state.Ending.{Ending as Stop}
 use Rattle.machine.specs.declared.run_state.Ending.TheVariants.{WildAddress}
 use Rattle.program_code.specs.Code.{moves, zeros}
 use Rattle.state_relation.specs.Views.{View, Range, out_from}
 use Rattle.state_relation.specs.Relation.{Memory, puts, Frame, Good}
-use Rattle.state_relation.specs.Alike.{same_event, same_end}
+use Rattle.state_relation.specs.Alike.{same_event, same_end, same_last}
 use Rattle.state_relation.proofs.Distances.{one_word, put_one}
 use Rattle.state_relation.proofs.Built.{Built, limits_of}
 
 module _ (m : Built) where
-  -- the state of the machine that a store is a part of: as yet it knows its stack's upper end and size from elsewhere
-  abbrev pub state_of : (pc : ℕ) → Memory → State
-  state_of pc s = record { pc = pc; words = s.words; reads = s.reads; heap = record { words = s.heap; max = m.heap_max } }
-
   abbrev pub range_of : Memory → Range
   range_of s = record { hi = s.hi; size = s.size }
 
+  -- the state of the machine that a store is a part of
+  abbrev pub state_of : (pc : ℕ) → Memory → State
+  state_of pc s = record { pc = pc; range = range_of s; words = s.words; reads = s.reads; heap = record { words = s.heap; max = m.heap_max } }
+
   -- what at most k instructions show from a place on
-  abbrev pub run_from : (pc : ℕ) → Memory → ℕ → Outcome.Outcome Event Stop
+  abbrev pub run_from : (pc : ℕ) → Memory → ℕ → Outcome.Outcome Event Stopped
   run_from pc s k = exec (act m.code m.max m.items) k (state_of pc s)
 
   -- what one instruction does there
@@ -42,26 +42,26 @@ module _ (m : Built) where
   does_at i pc s = act_on m.code m.max m.items (Some i) (state_of pc s)
 
   -- what is seen of a trace from a view on
-  abbrev pub seen_from : View → Range → Trace → Lines Sight Ending
-  seen_from v r t = out_from m.program (limits_of m) v r t
+  abbrev pub seen_from : View → Range → Trace → Lines Sight Last
+  seen_from v r t = out_from m.program m.placement (limits_of m) v r t
 
-  abbrev pub Paces : (lo hi b : ℕ) → Lines Sight Ending → (ℕ → Outcome.Outcome Event Stop) → Type 0
-  Paces lo hi b t run = Follows Sight Event Ending Stop same_event (same_end m.program.strings) lo hi b t run
+  abbrev pub Paces : (lo hi b : ℕ) → Lines Sight Last → (ℕ → Outcome.Outcome Event Stopped) → Type 0
+  Paces lo hi b t run = Follows Sight Event Last Stopped same_event (same_last m.program.strings) lo hi b t run
 
   -- From each start the run follows what is seen of the trace from there, and all show the same after as many steps.
-  pub record Run (lo hi b : ℕ) (v : View) (r : ℕ → Range) (t : Trace) (run : ℕ → ℕ → Outcome.Outcome Event Stop) : Type 0 where
+  pub record Run (lo hi b : ℕ) (v : View) (r : ℕ → Range) (t : Trace) (run : ℕ → ℕ → Outcome.Outcome Event Stopped) : Type 0 where
     pub each : (start : ℕ) → Paces lo hi b (seen_from v (r start) t) (run start)
     pub same : (start other n k : ℕ) → n < b → k ≤ n + hi → run start k ≡ run other k
 
-  pub run_weaken : {lo lo1 hi hi1 b b1 : ℕ} {v : View} {r : ℕ → Range} {t : Trace} {run : ℕ → ℕ → Outcome.Outcome Event Stop} → lo ≤ lo1 → hi1 ≤ hi → b1 ≤ b → Run lo hi b v r t run → Run lo1 hi1 b1 v r t run
+  pub run_weaken : {lo lo1 hi hi1 b b1 : ℕ} {v : View} {r : ℕ → Range} {t : Trace} {run : ℕ → ℕ → Outcome.Outcome Event Stopped} → lo ≤ lo1 → hi1 ≤ hi → b1 ≤ b → Run lo hi b v r t run → Run lo1 hi1 b1 v r t run
   run_weaken x y z f = record {
     each = λ n. record { lower = λ i k le. (f.each n).lower i k (omega arith); upper = λ i k lt le. (f.each n).upper i k (omega arith) (omega arith) };
     same = λ n o i k lt le. f.same n o i k (omega arith) (omega arith);
   }
 
-  pub run_turn : {lo lo1 b : ℕ} {v : View} {r : ℕ → Range} {t : Trace} {run : ℕ → ℕ → Outcome.Outcome Event Stop} → lo1 ≤ 16 + lo → ((n : ℕ) → run n 0 ≡ Unfinished) → Run lo1 1 (b - 1) v r t run → Run lo 0 b v r (Turn t) run
+  pub run_turn : {lo lo1 b : ℕ} {v : View} {r : ℕ → Range} {t : Trace} {run : ℕ → ℕ → Outcome.Outcome Event Stopped} → lo1 ≤ 16 + lo → ((n : ℕ) → run n 0 ≡ Unfinished) → Run lo1 1 (b - 1) v r t run → Run lo 0 b v r (Turn t) run
   run_turn {lo} {lo1} {b} {v} {r} {t} {run} le start f = record {
-    each = λ n. (let x = Pace.turn Sight Event Ending Stop same_event (same_end m.program.strings) {lo = lo} {lo' = lo1} {b = b - 1} le (start n) (f.each n) in
+    each = λ n. (let x = Pace.turn Sight Event Last Stopped same_event (same_last m.program.strings) {lo = lo} {lo' = lo1} {b = b - 1} le (start n) (f.each n) in
         record { lower = x.lower; upper = λ i k lt l. x.upper i k (omega arith) l });
     same = both;
   }
@@ -71,10 +71,10 @@ module _ (m : Built) where
       both p q (suc n) k lt l = f.same p q n k (omega arith) (omega arith)
 
   -- what is seen may be that of another trace, from another view
-  pub run_silent : {lo hi b : ℕ} {v v1 : View} {r r1 : ℕ → Range} {t t1 : Trace} {run run1 : ℕ → ℕ → Outcome.Outcome Event Stop} → ((n : ℕ) → seen_from v (r n) t ≡ seen_from v1 (r1 n) t1) → ((n k : ℕ) → run n (suc k) ≡ run1 n k) → ((n : ℕ) → run n 0 ≡ Unfinished)
+  pub run_silent : {lo hi b : ℕ} {v v1 : View} {r r1 : ℕ → Range} {t t1 : Trace} {run run1 : ℕ → ℕ → Outcome.Outcome Event Stopped} → ((n : ℕ) → seen_from v (r n) t ≡ seen_from v1 (r1 n) t1) → ((n k : ℕ) → run n (suc k) ≡ run1 n k) → ((n : ℕ) → run n 0 ≡ Unfinished)
       → Run lo hi b v1 r1 t1 run1 → Run (suc lo) 1 b v r t run
   run_silent {lo} {hi} {b} {v} {v1} {r} {r1} {t} {t1} {run} {run1} seen go start f = record {
-    each = λ n. subst (λ u. Paces (suc lo) 1 b u (run n)) (sym (seen n)) (Pace.silent Sight Event Ending Stop same_event (same_end m.program.strings) (go n) (start n) (f.each n));
+    each = λ n. subst (λ u. Paces (suc lo) 1 b u (run n)) (sym (seen n)) (Pace.silent Sight Event Last Stopped same_event (same_last m.program.strings) (go n) (start n) (f.each n));
     same = both;
   }
     where
@@ -82,20 +82,20 @@ module _ (m : Built) where
       both p q n zero lt l = start p ∙ sym (start q)
       both p q n (suc k) lt l = go p k ∙ f.same p q n k lt (omega arith) ∙ sym (go q k)
 
-  pub run_seen : {lo hi b : ℕ} {v v1 : View} {r r1 : ℕ → Range} {t t1 : Trace} {run : ℕ → ℕ → Outcome.Outcome Event Stop} → ((n : ℕ) → seen_from v (r n) t ≡ seen_from v1 (r1 n) t1) → Run lo hi b v1 r1 t1 run → Run lo hi b v r t run
+  pub run_seen : {lo hi b : ℕ} {v v1 : View} {r r1 : ℕ → Range} {t t1 : Trace} {run : ℕ → ℕ → Outcome.Outcome Event Stopped} → ((n : ℕ) → seen_from v (r n) t ≡ seen_from v1 (r1 n) t1) → Run lo hi b v1 r1 t1 run → Run lo hi b v r t run
   run_seen {lo} {hi} {b} {v} {v1} {r} {r1} {t} {t1} {run} seen f = record { each = λ n. subst (λ u. Paces lo hi b u (run n)) (sym (seen n)) (f.each n); same = f.same }
 
   -- an event, at no step of its own
-  pub run_shown : {lo hi b : ℕ} {v v1 : View} {r r1 : ℕ → Range} {t t1 : Trace} {run run1 : ℕ → ℕ → Outcome.Outcome Event Stop} (x : Sight) (d : Event) → same_event x d → ((n : ℕ) → seen_from v (r n) t ≡ Outcome.Line x (seen_from v1 (r1 n) t1)) → ((n k : ℕ) → run n k ≡ Gives d (run1 n k))
+  pub run_shown : {lo hi b : ℕ} {v v1 : View} {r r1 : ℕ → Range} {t t1 : Trace} {run run1 : ℕ → ℕ → Outcome.Outcome Event Stopped} (x : Sight) (d : Event) → same_event x d → ((n : ℕ) → seen_from v (r n) t ≡ Outcome.Line x (seen_from v1 (r1 n) t1)) → ((n k : ℕ) → run n k ≡ Gives d (run1 n k))
       → Run lo hi b v1 r1 t1 run1 → Run lo hi b v r t run
   run_shown {lo} {hi} {b} {v} {v1} {r} {r1} {t} {t1} {run} {run1} x d alike seen go f = record {
-    each = λ n. subst (λ u. Paces lo hi b u (run n)) (sym (seen n)) (Pace.shown Sight Event Ending Stop same_event (same_end m.program.strings) x d alike (go n) (f.each n));
+    each = λ n. subst (λ u. Paces lo hi b u (run n)) (sym (seen n)) (Pace.shown Sight Event Last Stopped same_event (same_last m.program.strings) x d alike (go n) (f.each n));
     same = λ n o i k lt le. go n k ∙ ap (Gives d) (f.same n o i k lt le) ∙ sym (go o k);
   }
 
-  pub run_ended : {lo hi b : ℕ} {v : View} {r : ℕ → Range} {t : Trace} {run : ℕ → ℕ → Outcome.Outcome Event Stop} (e : Ending) (y : Stop) → same_end m.program.strings e y → ((n : ℕ) → seen_from v (r n) t ≡ Outcome.End e) → ((n k : ℕ) → run n k ≡ Ends y) → Run lo hi b v r t run
+  pub run_ended : {lo hi b : ℕ} {v : View} {r : ℕ → Range} {t : Trace} {run : ℕ → ℕ → Outcome.Outcome Event Stopped} (e : Last) (y : Stopped) → same_last m.program.strings e y → ((n : ℕ) → seen_from v (r n) t ≡ Outcome.End e) → ((n k : ℕ) → run n k ≡ Ends y) → Run lo hi b v r t run
   run_ended {lo} {hi} {b} {v} {r} {t} {run} e y alike seen go = record {
-    each = λ n. subst (λ u. Paces lo hi b u (run n)) (sym (seen n)) (Pace.ended Sight Event Ending Stop same_event (same_end m.program.strings) e y alike (go n));
+    each = λ n. subst (λ u. Paces lo hi b u (run n)) (sym (seen n)) (Pace.ended Sight Event Last Stopped same_event (same_last m.program.strings) e y alike (go n));
     same = λ n o i k lt le. go n k ∙ sym (go o k);
   }
 
@@ -105,7 +105,7 @@ module _ (m : Built) where
 
   -- they stand for the world
   abbrev pub Stands : View → World → List Frame → Memory → Type 0
-  Stands v w calls s = Good m.program m.max v w calls s
+  Stands v w calls s = Good m.program m.placement m.max v w calls s
 
   -- ---- without an instruction
 
@@ -185,26 +185,33 @@ module _ (m : Built) where
   asking {v = v} {t = t} i next here does a = stepped_shown {v1 = v} {t1 = t} i Output.asking Event.Asked next here refl (λ r. refl) does a
 
   -- one that ends the run
-  pub halts : {lo b : ℕ} {v : View} {t : Trace} {G : Memory → Type 0} {pc : ℕ} (i : Instr) (e : Ending) (y : Stop) → slice_get m.code.instrs pc ≡ Some i → same_end m.program.strings e y → ((r : Range) → seen_from v r t ≡ Outcome.End e)
-      → ((s : Memory) → G s → does_at i pc s ≡ Stops [] y) → At (suc lo) 1 b v t G pc
-  halts {lo} {b} {v} {t} {G} {pc} i e y here alike same does = record {
-    at = λ ss gs. run_silent {lo = lo} {hi = 0} {v1 = v} {r1 = λ n. range_of (ss n)} {t1 = t} {run1 = λ n k. Ends y} (λ n. refl)
-        (λ n k. ap (λ o. after (act_on m.code m.max m.items o (state_of pc (ss n))) (exec (act m.code m.max m.items) k)) here ∙ ap (λ d. after d (exec (act m.code m.max m.items) k)) (does (ss n) (gs n))) (λ n. refl)
-        (run_ended e y alike (λ n. same (range_of (ss n))) (λ n k. refl));
+  pub halts : {lo b : ℕ} {v : View} {t : Trace} {G : Memory → Type 0} {pc : ℕ} (i : Instr) (e : Ending) (y : Stop) → slice_get m.code.instrs pc ≡ Some i → same_end m.program.strings e y → ((r : Range) → seen_from v r t ≡ Outcome.End (last v.heap e))
+      → ((s : Memory) → G s → length s.heap ≡ v.heap) → ((s : Memory) → G s → does_at i pc s ≡ stops (state_of pc s) y) → At (suc lo) 1 b v t G pc
+  halts {lo} {b} {v} {t} {G} {pc} i e y here alike same taken does = record {
+    at = λ ss gs. run_silent {lo = lo} {hi = 0} {v1 = v} {r1 = λ n. range_of (ss n)} {t1 = t} {run1 = λ n k. Ends ended} (λ n. refl)
+        (λ n k. ap (λ o. after (act_on m.code m.max m.items o (state_of pc (ss n))) (exec (act m.code m.max m.items) k)) here ∙ ap (λ d. after d (exec (act m.code m.max m.items) k)) (does (ss n) (gs n)) ∙ ap (λ h. Ends (record { ending = y; heap = h })) (taken (ss n) (gs n))) (λ n. refl)
+        (run_ended (last v.heap e) ended (alike, refl) (λ n. same (range_of (ss n))) (λ n k. refl));
   }
+    where
+      ended : Stopped
+      ended = record { ending = y; heap = v.heap }
 
   -- one that meets a limit in every run or in none
   pub gated : {lo hi b : ℕ} {v v1 : View} {t t1 : Trace} {G G1 : Memory → Type 0} {pc pc1 : ℕ} (i : Instr) (x : Bool) (e : Ending) (y : Stop) (next : Memory → Memory) → slice_get m.code.instrs pc ≡ Some i → same_end m.program.strings e y
-      → ((r : Range) → seen_from v r t ≡ (if x then seen_from v1 r t1 else Outcome.End e)) → ((s : Memory) → G s → does_at i pc s ≡ (if x then Goes [] (state_of pc1 (next s)) else Stops [] y)) → ((s : Memory) → range_of s ≡ range_of (next s))
+      → ((r : Range) → seen_from v r t ≡ (if x then seen_from v1 r t1 else Outcome.End (last v.heap e))) → ((s : Memory) → G s → length s.heap ≡ v.heap) → ((s : Memory) → G s → does_at i pc s ≡ (if x then Goes [] (state_of pc1 (next s)) else stops (state_of pc s) y)) → ((s : Memory) → range_of s ≡ range_of (next s))
       → (x ≡ true → (s : Memory) → G s → G1 (next s)) → (x ≡ true → At lo hi b v1 t1 G1 pc1) → At (suc lo) 1 b v t G pc
-  gated {v1 = v1} {t1 = t1} i true e y next here alike same does stays keeps a = stepped_as {v1 = v1} {t1 = t1} i next here same (λ s g. (does s g, stays s, keeps refl s g)) (a refl)
-  gated i false e y next here alike same does stays keeps a = halts i e y here alike same does
+  gated {v1 = v1} {t1 = t1} i true e y next here alike same taken does stays keeps a = stepped_as {v1 = v1} {t1 = t1} i next here same (λ s g. (does s g, stays s, keeps refl s g)) (a refl)
+  gated i false e y next here alike same taken does stays keeps a = halts i e y here alike same taken does
 
   -- ---- what instructions do to words
 
   -- the frame of the function that a place belongs to
-  pub frame_here : (f pc : ℕ) (func : Func) → slice_get m.program.funcs f ≡ Some func → owner_of m.code pc ≡ f → code_frame m.code (owner_of m.code pc) ≡ frame_of m.program func
+  pub frame_here : (f pc : ℕ) (func : Func) → slice_get m.program.funcs f ≡ Some func → owner_of m.code pc ≡ f → code_frame m.code (owner_of m.code pc) ≡ frame_of m.program m.placement func
   frame_here f pc func named own = ap (code_frame m.code) own ∙ ap entry_frame (m.compiled.placed f func named).entry
+
+  -- the variables of a running function live in its frame
+  pub stays_here : (c : Frame) (calls : List Frame) (v : View) (w : World) (s : Memory) (site : ℕ) → c.func.first ≤ site → site < c.func.first + c.func.count → Stands v w (c ∷ calls) s → m.placement.on_heap site ≡ false
+  stays_here c calls v w s site first last g = m.placed.stacked c.fn c.func g.homed.owned.0.named site first last
 
   pub moved_by : (n to from pc : ℕ) (s : Memory) → 0 < n → to + n ≤ length s.words → from + n ≤ length s.words → does_at (moves n to from) pc s ≡ Goes [] (state_of (pc + 1) (puts s to (words_at s.words from n)))
   moved_by zero to from pc s some room within = absurd (omega arith)
@@ -217,14 +224,14 @@ module _ (m : Built) where
   zeroed_by (suc zero) to pc s some room = ap (λ ws. Goes [] (state_of (pc + 1) (record s { words = ws }))) (sym (put_one s.words to 0 (omega arith)))
   zeroed_by (suc (suc n)) to pc s some room = refl
 
-  reached : (index n pc : ℕ) (s : Memory) (done : Does) → index + n ≤ length s.words → reaches m.max index n (state_of pc s) done ≡ done
-  reached index n pc s done le = ap (λ b. if b then done else Stops [] (WildAddress (address_of m.max (length s.words) + index))) (le-leb (index + n) (length s.words) le)
+  reached : (index n pc : ℕ) (s : Memory) (done : Does) → index + n ≤ length s.words → reaches index n (state_of pc s) done ≡ done
+  reached index n pc s done le = ap (λ b. if b then done else stops (state_of pc s) (WildAddress (address_of s.hi (length s.words) + index))) (le-leb (index + n) (length s.words) le)
 
   -- incoming words are read and written
   pub argument_by : (a i n frame pc : ℕ) (s : Memory) → code_frame m.code (owner_of m.code pc) ≡ frame → frame + i + n ≤ length s.words → does_at (ArgumentWords a i n) pc s ≡ Goes [] (state_of (pc + 1) (puts s a (words_at s.words (frame + i) n)))
   argument_by a i n frame pc s own le =
-      ap (λ f. reaches m.max (f + i) n (state_of pc s) (puts_words (state_of pc s) a (words_at s.words (f + i) n))) own ∙ reached (frame + i) n pc s (puts_words (state_of pc s) a (words_at s.words (frame + i) n)) le
+      ap (λ f. reaches (f + i) n (state_of pc s) (puts_words (state_of pc s) a (words_at s.words (f + i) n))) own ∙ reached (frame + i) n pc s (puts_words (state_of pc s) a (words_at s.words (frame + i) n)) le
 
   pub results_by : (a i n frame pc : ℕ) (s : Memory) → code_frame m.code (owner_of m.code pc) ≡ frame → frame + i + n ≤ length s.words → does_at (SetResults a i n) pc s ≡ Goes [] (state_of (pc + 1) (puts s (frame + i) (words_at s.words a n)))
   results_by a i n frame pc s own le =
-      ap (λ f. reaches m.max (f + i) n (state_of pc s) (puts_words (state_of pc s) (f + i) (words_at s.words a n))) own ∙ reached (frame + i) n pc s (puts_words (state_of pc s) (frame + i) (words_at s.words a n)) le
+      ap (λ f. reaches (f + i) n (state_of pc s) (puts_words (state_of pc s) (f + i) (words_at s.words a n))) own ∙ reached (frame + i) n pc s (puts_words (state_of pc s) (frame + i) (words_at s.words a n)) le

@@ -4,8 +4,8 @@ use Rattle.std.specs.Int.{w64}
 use Rattle.typed_syntax.specs.Value.{int, bool}
 use Rattle.meaning.specs.Trace.{Ending, Exit, Panic, StackLimit, HeapLimit, Fault, divide_by_zero, shift_count, index_out_of_range, exit_code, raised_text, raised}
 use Rattle.meaning.specs.Meaning.{Item}
-use Rattle.meaning.specs.Output.{Sight, printing, asking}
-use Rattle.machine.specs.Machine.{Event, Printed, Asked}
+use Rattle.meaning.specs.Output.{Sight, Last, printing, asking}
+use Rattle.machine.specs.Machine.{Event, Printed, Asked, Last as Stopped}
 use Rattle.machine.specs.declared.run_state.Ending.{Ending as Stop}
 use Rattle.machine.specs.declared.run_state.Ending.TheVariants as Machine
 use Rattle.machine.specs.declared.run_state.Panic.{Panic as MachinePanic}
@@ -36,3 +36,7 @@ same_end strings (Panic at f) (Machine.Panic x) = same_fault strings f x
 same_end strings (StackLimit used asked max) (Machine.StackLimit u a m) = (used ≡ u) × (asked ≡ a) × (max ≡ m)
 same_end strings (HeapLimit used asked max) (Machine.HeapLimit u a m) = (used ≡ u) × (asked ≡ a) × (max ≡ m)
 same_end strings e f = ⊥
+
+-- the same ending, with as many words of the heap taken
+abbrev pub same_last : List (List ℕ) → Last → Stopped → Type 0
+same_last strings l s = same_end strings l.ending s.ending × (l.heap ≡ s.heap)

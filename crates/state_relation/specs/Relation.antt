@@ -7,7 +7,8 @@ use Rattle.typed_syntax.specs.Paths.{Leads, offset}
 use Rattle.typed_syntax.specs.Words.{Content, number, truth, contents}
 use Rattle.typed_syntax.specs.Syntax.{Func, Program, site_type, global_type}
 use Rattle.typed_syntax.specs.Form.{InScope}
-use Rattle.typed_syntax.specs.Frames.{outgoing_of, temps_of, frame_of}
+use Rattle.frames.specs.Placement.{Placement}
+use Rattle.frames.specs.Frames.{outgoing_of, temps_of, frame_of}
 use Rattle.meaning.specs.Trace.{World, Cell}
 use Rattle.meaning.specs.Meaning.{Env, with_home}
 use Rattle.heap_bump.specs.Words.{first_address}
@@ -171,34 +172,34 @@ words_before p g = globals_before p.sites (sites_of p.globals) g
 abbrev pub all_words : Program → ℕ
 all_words p = words_before p (length p.globals)
 
-module _ (p : Program) where
+module _ (p : Program) (pl : Placement) where
   -- ---- where the words of frames lie
 
   -- the words of these calls
   abbrev pub depth : List Frame → ℕ
   depth [] = 0
-  depth (c ∷ calls) = frame_of p c.func + depth calls
+  depth (c ∷ calls) = frame_of p pl c.func + depth calls
 
   -- how deep the end of the frame above a call from these lies, if there is a frame
   abbrev pub over : List Frame → Option ℕ
   over [] = None
   over (c ∷ calls) = Some (depth calls)
 
-  -- A word of a site; of the variable x, at a site in scope; of a temp that keeps something; a return place; and a link, which
-  -- leads so deep.
+  -- A word of a site, whose variables live in the frame; of the variable x, at such a site in scope; of a temp that keeps something; a
+  -- return place; and a link, which leads so deep.
   abbrev pub SiteAt : List Frame → ℕ → TypeTree → Type 0
   SiteAt [] d t = ⊥
   SiteAt (c ∷ calls) d t =
-      ((site : ℕ) × (c.func.first ≤ site) × (site < c.func.first + c.func.count) × (d ≡ depth (c ∷ calls) - site_slot (slots_of p c.func) site) × (site_type p site ≡ t)) ⊎ SiteAt calls d t
+      ((site : ℕ) × (c.func.first ≤ site) × (site < c.func.first + c.func.count) × (d ≡ depth (c ∷ calls) - site_slot (slots_of p pl c.func) site) × (site_type p site ≡ t) × (pl.on_heap site ≡ false)) ⊎ SiteAt calls d t
 
   abbrev pub NamedAt : List Frame → (x d : ℕ) → TypeTree → Type 0
   NamedAt [] x d t = ⊥
   NamedAt (c ∷ calls) x d t =
-      ((site : ℕ) × InScope site c.scope × (x ≡ c.env site) × (d ≡ depth (c ∷ calls) - site_slot (slots_of p c.func) site) × (site_type p site ≡ t)) ⊎ NamedAt calls x d t
+      ((site : ℕ) × InScope site c.scope × (x ≡ c.env site) × (d ≡ depth (c ∷ calls) - site_slot (slots_of p pl c.func) site) × (site_type p site ≡ t) × (pl.on_heap site ≡ false)) ⊎ NamedAt calls x d t
 
   abbrev pub HeldAt : List Frame → ℕ → Kept → Type 0
   HeldAt [] d k = ⊥
-  HeldAt (c ∷ calls) d k = ((i : ℕ) × (i < temps_of p c.func) × (d ≡ depth (c ∷ calls) - (outgoing_of p c.func + i)) × (slice_get c.held i ≡ Some k)) ⊎ HeldAt calls d k
+  HeldAt (c ∷ calls) d k = ((i : ℕ) × (i < temps_of p pl c.func) × (d ≡ depth (c ∷ calls) - (outgoing_of p c.func + i)) × (slice_get c.held i ≡ Some k)) ⊎ HeldAt calls d k
 
   abbrev pub BackAt : List Frame → (d place : ℕ) → Type 0
   BackAt [] d place = ⊥
@@ -213,7 +214,7 @@ module _ (p : Program) where
   -- a running call is one of a function of the program, whose temps have room for what they keep, with sites of its own in scope
   pub record Own (c : Frame) : Type 0 where
     pub named : slice_get p.funcs c.fn ≡ Some c.func
-    pub room : length c.held ≤ temps_of p c.func
+    pub room : length c.held ≤ temps_of p pl c.func
     pub among : (site : ℕ) → InScope site c.scope → (c.func.first ≤ site) × (site < c.func.first + c.func.count)
 
   abbrev pub AllOwn : List Frame → Type 0
@@ -259,14 +260,13 @@ module _ (p : Program) where
     pub links : (d : ℕ) (e : Option ℕ) → LinkAt calls d e → word_at words d ≡ link_word hi e
 
   module _ (max : ℕ) where
-    -- Lengths, and where the stack lies: the machine's ends at one address as yet, and has this many words. Addresses of the
-    -- heap are below all of the stack's.
+    -- Lengths, and where the stack lies: wherever it ends, it has room for all the words that it may have. Addresses of the heap are below
+    -- all of the stack's.
     pub record Sized (heap reads : ℕ) (calls : List Frame) (s : Memory) : Type 0 where
       pub used : length s.words ≡ depth calls
       pub heap_used : length s.heap ≡ heap
       pub asked : s.reads ≡ reads
-      pub ends : s.hi ≡ 2 ^ 40 + max
-      pub has : s.size ≡ max
+      pub full : s.size ≡ max
       pub low : 2 ^ 40 + s.size ≤ s.hi
       pub high : s.hi < 2 ^ 64
       pub fits : depth calls ≤ s.size

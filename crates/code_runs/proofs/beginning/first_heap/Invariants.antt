@@ -1,6 +1,5 @@
 use Rattle.std.proofs.Common.{◌≡◌, List, [], ℕ, drop, map}
-use Rattle.machine.specs.Machine.{Event}
-use Rattle.machine.specs.declared.run_state.Ending.{Ending}
+use Rattle.machine.specs.Machine.{Event, Last as Halt}
 use Rattle.simulation.specs.Outcome.{Outcome}
 use Rattle.typed.specs.View.{global_of}
 use Rattle.expression_code.specs.Frame.{sites_in}
@@ -10,5 +9,5 @@ use Rattle.code_runs.proofs.beginning.first_heap.Given as goal
 abbrev pub invariant-loop-global : goal.invariant-loop-global
 invariant-loop-global l =
     (l.heap.max ≡ l.heap_max)
-    × ((follow : List ℕ → Outcome Event Ending) → begun l.heap_max [] (first_words (map (global_of (sites_in l.program)) l.globals)) follow
+    × ((follow : List ℕ → Outcome Event Halt) → begun l.heap_max [] (first_words (map (global_of (sites_in l.program)) l.globals)) follow
     ≡ begun l.heap_max l.heap.words (first_words (map (global_of (sites_in l.program)) (drop l.global-index l.globals))) follow)

@@ -1,6 +1,11 @@
-use Rattle.std.proofs.Common.{◌≡◌, ℕ, List, Err, subst}
+use Rattle.std.proofs.Common.{◌≡◌, ◌∙◌, ℕ, List, Err, ap, sym, subst}
 use Rattle.syntax.specs.Declarations.{Syntax, syntax_of}
 use Rattle.typed.specs.View.{program_of}
+use Rattle.frames.specs.Placement.{Placement, IsPlaced, package_alone}
+use Rattle.placement.specs.Told.{placement_of}
+use Rattle.frame_layout.specs.Layout.{first_too_large, IsTooLarge, layouts}
+use Rattle.program_code.specs.Code.{code_of}
+use Rattle.program_code.proofs.Sites.{package_placed}
 use Rattle.parse_go.specs.Grammar.{IsText}
 use Rattle.parse_go.specs.Faults.{GivesTree}
 use Rattle.compile.specs.Faults.{of_scan, of_parse, of_typing, of_layout}
@@ -45,8 +50,10 @@ returns-in_err-layouts-clause-refused c =
     let tree = syntax_of c.in_ok-tree.tree in
     let q = c.in_ok-program.program in
     let f = c.in_err-layouts.field-0.0 in
+    let large : IsTooLarge (first_too_large (program_of q) (package_alone (program_of q)) q.funcs.items) f =
+    subst (λ (l : Placement). IsTooLarge (first_too_large (program_of q) l q.funcs.items) f) c.in_ok-placement.ensures c.in_err-layouts.ensures.fault in
     refused_err text _ (of_layout f) c.from_residual-in_err-layouts.ensures.1
-    (layout_refuses text tree q f (has_tree text c.in_ok-tokens.tokens tree c.in_ok-tokens.ensures.exact c.in_ok-tokens.ensures.text c.in_ok-tree.ensures.found) c.in_ok-program.ensures.typed c.in_ok-program.ensures.places c.in_err-layouts.ensures.fault)
+    (layout_refuses text tree q f (has_tree text c.in_ok-tokens.tokens tree c.in_ok-tokens.ensures.exact c.in_ok-tokens.ensures.text c.in_ok-tree.ensures.found) c.in_ok-program.ensures.typed c.in_ok-program.ensures.places large)
 
 pub returns-in_err-layouts-clause-only : goal.returns-in_err-layouts-clause-only
 returns-in_err-layouts-clause-only c =
@@ -55,9 +62,11 @@ returns-in_err-layouts-clause-only c =
     let tree = syntax_of c.in_ok-tree.tree in
     let q = c.in_ok-program.program in
     let f = c.in_err-layouts.field-0.0 in
+    let large : IsTooLarge (first_too_large (program_of q) (package_alone (program_of q)) q.funcs.items) f =
+    subst (λ (l : Placement). IsTooLarge (first_too_large (program_of q) l q.funcs.items) f) c.in_ok-placement.ensures c.in_err-layouts.ensures.fault in
     let one : (other : Syntax) → IsText text tokens.list other → tree ≡ other =
     subst (λ (t : List ℕ). (other : Syntax) → IsText t tokens.list other → tree ≡ other) c.in_ok-tokens.ensures.text c.in_ok-tree.ensures.only in
-    λ p a. only_err c.from_residual-in_err-layouts.result (of_layout f) c.from_residual-in_err-layouts.ensures.1 p (layout_only text tokens.list c.in_ok-tokens.ensures.only tree one q f c.in_ok-program.ensures.only c.in_err-layouts.ensures.fault p a)
+    λ p a. only_err c.from_residual-in_err-layouts.result (of_layout f) c.from_residual-in_err-layouts.ensures.1 p (layout_only text tokens.list c.in_ok-tokens.ensures.only tree one q f c.in_ok-program.ensures.only large p a)
 
 pub returns-clause-only : goal.returns-clause-only
 returns-clause-only c =
@@ -68,6 +77,21 @@ returns-clause-only c =
     let one : (other : Syntax) → IsText text tokens.list other → tree ≡ other =
     subst (λ (t : List ℕ). (other : Syntax) → IsText t tokens.list other → tree ≡ other) c.in_ok-tokens.ensures.text c.in_ok-tree.ensures.only in
     λ p a. program_only text tokens.list c.in_ok-tokens.ensures.only tree one q c.in_ok-program.ensures.only p a
+
+pub emit-requires-clause-placed : goal.emit-requires-clause-placed
+emit-requires-clause-placed c =
+    let p = program_of c.in_ok-program.program in subst (λ (l : Placement). IsPlaced p l) (sym c.in_ok-placement.ensures) (package_placed p c.in_ok-program.ensures.in_form)
+
+pub returns-clause-does : goal.returns-clause-does
+returns-clause-does c =
+    let p = program_of c.in_ok-program.program in let placed = c.in_ok-placement.ensures in let is = c.in_ok-code.ensures.is ∙ ap (code_of p) placed in record {
+      layouts = c.in_ok-layouts.ensures.layouts ∙ ap (layouts p) placed;
+      strings = ap (λ code. code.strings) is;
+      form = c.in_ok-program.ensures.in_form;
+      code = is;
+      main = c.in_ok-code.ensures.main;
+      small = c.in_ok-code.ensures.small;
+    }
 
 pub returns-clause-accepted : goal.returns-clause-accepted
 returns-clause-accepted c =
@@ -80,5 +104,5 @@ returns-clause-accepted c =
         has = has_tree text c.in_ok-tokens.tokens tree c.in_ok-tokens.ensures.exact c.in_ok-tokens.ensures.text c.in_ok-tree.ensures.found;
         types = c.in_ok-program.ensures.typed;
       };
-      fits = fits_all (program_of q) q.funcs.items c.in_ok-layouts.ensures.small;
+      fits = fits_all (program_of q) (package_alone (program_of q)) q.funcs.items (ap (λ (l : Placement). first_too_large (program_of q) l q.funcs.items) (sym c.in_ok-placement.ensures) ∙ c.in_ok-layouts.ensures.small);
     }

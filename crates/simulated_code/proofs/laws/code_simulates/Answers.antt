@@ -5,4 +5,4 @@ use Rattle.simulated_code.proofs.Follows.{simulated}
 use Rattle.simulated_code.proofs.laws.code_simulates.Goals as goal
 
 pub returns : goal.returns
-returns c = λ p form. simulated p (code_of p) (compiled p) form refl
+returns c = λ p l form are_placed. simulated p l (code_of p l) (compiled p l) form are_placed refl
