@@ -164,7 +164,8 @@ fn add_test(calls: &mut Vec<u32>, test: &Option<Expr>) -> Result<(), NoMemory>
 
 /// Adds the calls in an assignment.
 fn add_assign(calls: &mut Vec<u32>, lefts: &[Left], values: &Values) -> Result<(), NoMemory>
-    ensures { OnOk result (calls.new.items ≡ calls.old.items ++ (called_in_lefts (map left_of lefts.now) ++ called_all (exs_of_values values.now))) }
+    ensures { OnOk result (calls.new.items ≡ calls.old.items
+        ++ (called_in_lefts (map left_of lefts.now) ++ called_all (exs_of_values values.now))) }
 {
     add_lefts(calls, lefts)?;
     add_values(calls, values)

@@ -149,7 +149,8 @@ fn add_field(
     fields: &mut Vec<Option<PrefixedType>>,
     field: &Field,
 ) -> Result<(), NoMemory>
-    ensures { OnOk result (views fields.new.items ≡ with_field text.now (scope_of scope.now) (views fields.old.items) (field_of field.now)) }
+    ensures { OnOk result (views fields.new.items
+        ≡ with_field text.now (scope_of scope.now) (views fields.old.items) (field_of field.now)) }
 {
     let value_type = prefixed(alloc, text, scope, &field.type_expr)?;
     add_each(alloc, fields, &field.names, &value_type)
@@ -180,7 +181,8 @@ fn add_structs(
     specs: &[TypeSpec],
 ) -> Result<(), NoMemory>
     ensures { OnOk result
-        (structs_of structs.new.items ≡ with_specs text.now (scope_of scope.now) (structs_of structs.old.items) (type_specs_of specs.now)) }
+        (structs_of structs.new.items ≡ with_specs text.now (scope_of scope.now) (structs_of structs.old.items)
+        (type_specs_of specs.now)) }
 {
     for spec in specs {
         let declared = struct_of(alloc, text, scope, &spec.fields)?;

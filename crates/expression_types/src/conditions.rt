@@ -114,8 +114,10 @@ pub fn check_test(
     pos: Pos,
     clause: &Clause,
 ) -> Result<Test, NoMemory>
-    ensures value { IfOk result (λ r. option_map test_of r.value ≡ test text.now (scope_of scope.now) (condition_in (clause_of clause.now))) }
-    ensures fault { IfOk result (λ r. IsLeast (FailsInTest text.now (scope_of scope.now) pos (condition_in (clause_of clause.now))) r.fault) }
+    ensures value { IfOk result (λ r. option_map test_of r.value
+        ≡ test text.now (scope_of scope.now) (condition_in (clause_of clause.now))) }
+    ensures fault { IfOk result (λ r. IsLeast
+        (FailsInTest text.now (scope_of scope.now) pos (condition_in (clause_of clause.now))) r.fault) }
 {
     match clause {
         Clause::While(e) => check_present(alloc, text, scope, pos, e),

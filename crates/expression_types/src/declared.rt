@@ -26,8 +26,10 @@ pub fn check_before(
     scope: &Scope,
     type_expr: &Option<Expr>,
 ) -> Result<Option<Stated>, NoMemory>
-    ensures types { IfOk result (λ r. type_before r ≡ option_map (stated_type text.now (scope_of scope.now)) (ex_in type_expr.now)) }
-    ensures fault { IfOk result (λ r. IsLeast (FailsBefore text.now (scope_of scope.now) (ex_in type_expr.now)) (fault_before r)) }
+    ensures types { IfOk result (λ r. type_before r
+        ≡ option_map (stated_type text.now (scope_of scope.now)) (ex_in type_expr.now)) }
+    ensures fault { IfOk result (λ r. IsLeast (FailsBefore text.now (scope_of scope.now) (ex_in type_expr.now))
+        (fault_before r)) }
 {
     match type_expr {
         Some(e) => Ok(Some(check_stated(alloc, text, scope, e)?)),

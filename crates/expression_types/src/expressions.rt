@@ -124,7 +124,8 @@ fn literal(pos: Pos, number: u128) -> Checked
 /// A string literal, by its first byte and the offset after it.
 fn quoted(alloc: Global, text: &[u8], pos: Pos, behind: u32) -> Result<Checked, NoMemory>
     ensures pos { IfOk result (λ c. c.pos ≡ pos) }
-    ensures gives { IfOk result (λ c. option_map gives_of c.gives ≡ Some (quoted_gives pos (string_value (between text.now pos.offset behind)))) }
+    ensures gives { IfOk result (λ c. option_map gives_of c.gives
+        ≡ Some (quoted_gives pos (string_value (between text.now pos.offset behind)))) }
     ensures fault { IfOk result (λ c. c.fault ≡ None) }
 {
     let bytes = string_value(alloc, between(text, pos.offset, behind))?;
@@ -168,8 +169,11 @@ fn pair(
     right: Single,
 ) -> Result<Checked, NoMemory>
     ensures pos { IfOk result (λ c. c.pos ≡ left.pos) }
-    ensures gives { IfOk result (λ c. option_map gives_of c.gives ≡ pair_gives pos op (option_map operand_of left.operand) (option_map operand_of right.operand)) }
-    ensures fault { IfOk result (λ c. c.fault ≡ least (least left.fault right.fault) (pair_fault left.pos right.pos op (option_map operand_of left.operand) (option_map operand_of right.operand))) }
+    ensures gives { IfOk result (λ c. option_map gives_of c.gives
+        ≡ pair_gives pos op (option_map operand_of left.operand) (option_map operand_of right.operand)) }
+    ensures fault { IfOk result (λ c. c.fault
+        ≡ least (least left.fault right.fault)
+        (pair_fault left.pos right.pos op (option_map operand_of left.operand) (option_map operand_of right.operand))) }
 {
     let own = pair_fault(op, left.pos, right.pos, &left.operand, &right.operand);
     let operand = paired(alloc, op, pos, left.operand, right.operand)?;
@@ -188,8 +192,12 @@ fn element(
     index: Single,
 ) -> Result<Checked, NoMemory>
     ensures pos { IfOk result (λ c. c.pos ≡ whole.pos) }
-    ensures gives { IfOk result (λ c. option_map gives_of c.gives ≡ option_map one_gives (both (indexed types.now bracket) (option_map operand_of whole.operand) (option_map operand_of index.operand))) }
-    ensures fault { IfOk result (λ c. c.fault ≡ least (least whole.fault index.fault) (index_fault types.now whole.pos (option_map operand_of whole.operand) (option_map operand_of index.operand))) }
+    ensures gives { IfOk result (λ c. option_map gives_of c.gives
+        ≡ option_map one_gives (both (indexed types.now bracket) (option_map operand_of whole.operand)
+        (option_map operand_of index.operand))) }
+    ensures fault { IfOk result (λ c. c.fault
+        ≡ least (least whole.fault index.fault)
+        (index_fault types.now whole.pos (option_map operand_of whole.operand) (option_map operand_of index.operand))) }
 {
     let own = index_fault(types, whole.pos, &whole.operand, &index.operand);
     let operand = indexed(types, bracket, whole.operand, index.operand)?;
@@ -229,8 +237,11 @@ fn call_of(
     inner: Option<Fault>,
 ) -> Result<Checked, NoMemory>
     ensures pos { IfOk result (λ c. c.pos ≡ pos) }
-    ensures gives { IfOk result (λ c. option_map gives_of c.gives ≡ called_quietly pos (callee_of called.callee) (seens arguments.items.items)) }
-    ensures fault { IfOk result (λ c. IsLesserWith (λ f. CallFails pos (callee_of called.callee) (seens arguments.items.items) f ⊎ IsFault inner f) (least called.fault arguments.fault) c.fault) }
+    ensures gives { IfOk result (λ c. option_map gives_of c.gives
+        ≡ called_quietly pos (callee_of called.callee) (seens arguments.items.items)) }
+    ensures fault { IfOk result (λ c. IsLesserWith
+        (λ f. CallFails pos (callee_of called.callee) (seens arguments.items.items) f ⊎ IsFault inner f)
+        (least called.fault arguments.fault) c.fault) }
 {
     let own = lesser(call_fault(pos, &called.callee, &arguments.items), inner);
     let is_quiet = are_quiet(&called.callee, &arguments.items);
@@ -331,7 +342,8 @@ fn check_prefix(
     inner: &Expr,
 ) -> Result<Checked, NoMemory>
     ensures pos { IfOk result (λ c. c.pos ≡ pos) }
-    ensures gives { IfOk result (λ c. option_map gives_of c.gives ≡ gives text.now (scope_of scope.now) (unary pos op (tree_of inner.now))) }
+    ensures gives { IfOk result (λ c. option_map gives_of c.gives
+        ≡ gives text.now (scope_of scope.now) (unary pos op (tree_of inner.now))) }
     ensures fault { IfOk result (λ c. IsLeast (Fails text.now (scope_of scope.now) (unary pos op (tree_of inner.now))) c.fault) }
 {
     if !has_rules(op) {
@@ -357,7 +369,8 @@ fn check_left_out(
 ) -> Result<Checked, NoMemory>
     ensures pos { IfOk result (λ c. c.pos ≡ first_pos (tree_of first.now)) }
     ensures gives { IfOk result (λ c. option_map gives_of c.gives ≡ None) }
-    ensures fault { IfOk result (λ c. IsLeast (λ f. Fails text.now (scope_of scope.now) (tree_of first.now) f ⊎ FormFails (first_pos (tree_of first.now)) f) c.fault) }
+    ensures fault { IfOk result (λ c. IsLeast
+        (λ f. Fails text.now (scope_of scope.now) (tree_of first.now) f ⊎ FormFails (first_pos (tree_of first.now)) f) c.fault) }
 {
     let checked = check_expr(alloc, text, scope, first)?;
     Ok(Checked {
@@ -378,8 +391,10 @@ fn check_selector(
     name: Name,
 ) -> Result<Checked, NoMemory>
     ensures pos { IfOk result (λ c. c.pos ≡ first_pos (tree_of value.now)) }
-    ensures gives { IfOk result (λ c. option_map gives_of c.gives ≡ gives text.now (scope_of scope.now) (selector_of (tree_of value.now) dot name)) }
-    ensures fault { IfOk result (λ c. IsLeast (Fails text.now (scope_of scope.now) (selector_of (tree_of value.now) dot name)) c.fault) }
+    ensures gives { IfOk result (λ c. option_map gives_of c.gives
+        ≡ gives text.now (scope_of scope.now) (selector_of (tree_of value.now) dot name)) }
+    ensures fault { IfOk result (λ c. IsLeast
+        (Fails text.now (scope_of scope.now) (selector_of (tree_of value.now) dot name)) c.fault) }
 {
     let value = check_single(alloc, text, scope, value)?;
     let own = selector_fault(text, scope, value.pos, name, &value.operand);
@@ -424,8 +439,10 @@ fn check_elements(
     list: &[Element],
 ) -> Result<Checked, NoMemory>
     ensures pos { IfOk result (λ c. c.pos ≡ first) }
-    ensures gives { IfOk result (λ c. option_map gives_of c.gives ≡ literal_gives text.now (scope_of scope.now) whole (elements_of list.now)) }
-    ensures fault { IfOk result (λ c. IsLeast (FailsInLiteral text.now (scope_of scope.now) first whole (elements_of list.now)) c.fault) }
+    ensures gives { IfOk result (λ c. option_map gives_of c.gives
+        ≡ literal_gives text.now (scope_of scope.now) whole (elements_of list.now)) }
+    ensures fault { IfOk result (λ c. IsLeast
+        (FailsInLiteral text.now (scope_of scope.now) first whole (elements_of list.now)) c.fault) }
 {
     let listed = check_placed(alloc, text, scope, whole, list)?;
     literal_of(alloc, text, scope, first, whole, list, listed)
@@ -440,8 +457,10 @@ fn check_placed(
     whole: Option<ValueType>,
     list: &[Element],
 ) -> Result<PlacedList, NoMemory>
-    ensures placed { IfOk result (λ l. placeds l.placed.items ≡ placed text.now (scope_of scope.now) whole 0 (elements_of list.now)) }
-    ensures fault { IfOk result (λ l. IsLeast (FailsInElements text.now (scope_of scope.now) whole (elements_of list.now)) l.fault) }
+    ensures placed { IfOk result (λ l. placeds l.placed.items
+        ≡ placed text.now (scope_of scope.now) whole 0 (elements_of list.now)) }
+    ensures fault { IfOk result (λ l. IsLeast
+        (FailsInElements text.now (scope_of scope.now) whole (elements_of list.now)) l.fault) }
 {
     let mut placed = Vec::new(alloc);
     let mut fault = None;
@@ -470,8 +489,10 @@ fn check_element(
     element: &Element,
 ) -> Result<Single, NoMemory>
     ensures pos { IfOk result (λ c. c.pos ≡ first_pos (element_value element.now)) }
-    ensures operand { IfOk result (λ c. option_map operand_of c.operand ≡ operand_in (element_gives text.now (scope_of scope.now) whole (element_value element.now))) }
-    ensures fault { IfOk result (λ c. IsLeast (FailsInElement text.now (scope_of scope.now) whole (element_value element.now)) c.fault) }
+    ensures operand { IfOk result (λ c. option_map operand_of c.operand
+        ≡ operand_in (element_gives text.now (scope_of scope.now) whole (element_value element.now))) }
+    ensures fault { IfOk result (λ c. IsLeast
+        (FailsInElement text.now (scope_of scope.now) whole (element_value element.now)) c.fault) }
 {
     match element {
         Element::Plain(e) => check_part(alloc, text, scope, whole, e),
@@ -490,7 +511,8 @@ fn check_part(
     e: &Expr,
 ) -> Result<Single, NoMemory>
     ensures pos { IfOk result (λ c. c.pos ≡ first_pos (tree_of e.now)) }
-    ensures operand { IfOk result (λ c. option_map operand_of c.operand ≡ operand_in (element_gives text.now (scope_of scope.now) whole (tree_of e.now))) }
+    ensures operand { IfOk result (λ c. option_map operand_of c.operand
+        ≡ operand_in (element_gives text.now (scope_of scope.now) whole (tree_of e.now))) }
     ensures fault { IfOk result (λ c. IsLeast (FailsInElement text.now (scope_of scope.now) whole (tree_of e.now)) c.fault) }
 {
     if !is_bare(e) {
@@ -514,8 +536,13 @@ fn check_callee(
     e: &Expr,
     spread: bool,
 ) -> Result<Called, NoMemory>
-    ensures callee { IfOk result (λ c. callee_of c.callee ≡ spread_over spread (callee text.now (scope_of scope.now) (name_in (tree_of e.now)) (gives text.now (scope_of scope.now) (tree_of e.now)))) }
-    ensures fault { IfOk result (λ c. IsLeast (CalleeFails text.now (scope_of scope.now) (name_in (tree_of e.now)) (λ f. Fails text.now (scope_of scope.now) (tree_of e.now) f) (gives text.now (scope_of scope.now) (tree_of e.now))) c.fault) }
+    ensures callee { IfOk result (λ c. callee_of c.callee
+        ≡ spread_over spread (callee text.now (scope_of scope.now) (name_in (tree_of e.now))
+        (gives text.now (scope_of scope.now) (tree_of e.now)))) }
+    ensures fault { IfOk result (λ c. IsLeast
+        (CalleeFails text.now (scope_of scope.now) (name_in (tree_of e.now))
+        (λ f. Fails text.now (scope_of scope.now) (tree_of e.now) f)
+        (gives text.now (scope_of scope.now) (tree_of e.now))) c.fault) }
 {
     match name_in(e) {
         Some(name) => {
@@ -539,7 +566,8 @@ fn check_callee(
 #[cycle(expressions)]
 pub fn check_early(alloc: Global, text: &[u8], scope: &Scope, e: &Expr) -> Result<Single, NoMemory>
     ensures pos { IfOk result (λ c. c.pos ≡ first_pos (tree_of e.now)) }
-    ensures operand { IfOk result (λ c. option_map operand_of c.operand ≡ early_gives text.now (scope_of scope.now) (tree_of e.now)) }
+    ensures operand { IfOk result (λ c. option_map operand_of c.operand
+        ≡ early_gives text.now (scope_of scope.now) (tree_of e.now)) }
     ensures fault { IfOk result (λ c. IsLeast (FailsEarly text.now (scope_of scope.now) (tree_of e.now)) c.fault) }
 {
     let single = check_single(alloc, text, scope, e)?;
@@ -550,7 +578,8 @@ pub fn check_early(alloc: Global, text: &[u8], scope: &Scope, e: &Expr) -> Resul
 #[cycle(expressions)]
 pub fn check_single(alloc: Global, text: &[u8], scope: &Scope, e: &Expr) -> Result<Single, NoMemory>
     ensures pos { IfOk result (λ c. c.pos ≡ first_pos (tree_of e.now)) }
-    ensures operand { IfOk result (λ c. option_map operand_of c.operand ≡ operand_in (gives text.now (scope_of scope.now) (tree_of e.now))) }
+    ensures operand { IfOk result (λ c. option_map operand_of c.operand
+        ≡ operand_in (gives text.now (scope_of scope.now) (tree_of e.now))) }
     ensures fault { IfOk result (λ c. IsLeast (FailsAsOperand text.now (scope_of scope.now) (tree_of e.now)) c.fault) }
 {
     let checked = check_expr(alloc, text, scope, e)?;

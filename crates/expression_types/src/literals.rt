@@ -66,8 +66,10 @@ fn length_in(operand: &Option<operators::Operand>) -> Option<u64>
 
 /// An array type, with its bracket at a place, of a length and the type of its elements.
 pub fn array_of(types: &TypeTable, bracket: Pos, length: Single, element: Stated) -> Stated
-    ensures value_type { result.value_type ≡ array_with types.now (option_and_then length_of (option_map operand_of length.operand)) element.value_type }
-    ensures fault { result.fault ≡ least (least length.fault element.fault) (least (length_fault length.pos (option_map operand_of length.operand))
+    ensures value_type { result.value_type ≡ array_with types.now
+        (option_and_then length_of (option_map operand_of length.operand)) element.value_type }
+    ensures fault { result.fault ≡ least (least length.fault element.fault)
+        (least (length_fault length.pos (option_map operand_of length.operand))
         (array_fault types.now bracket (option_and_then length_of (option_map operand_of length.operand)) element.value_type)) }
 {
     let number = length_in(&length.operand);
@@ -108,7 +110,8 @@ fn literal_value(
     elements: &[Element],
     placed: Vec<Placed>,
 ) -> Result<Option<Gives>, NoMemory>
-    ensures { IfOk result (λ r. option_map gives_of r ≡ literal_given text.now (scope_of scope.now) whole (tree_elements elements.now) (placeds placed.items)) }
+    ensures { IfOk result (λ r. option_map gives_of r
+        ≡ literal_given text.now (scope_of scope.now) whole (tree_elements elements.now) (placeds placed.items)) }
 {
     let Some(whole) = whole else {
         return Ok(None);
@@ -131,8 +134,11 @@ pub fn literal_of(
     listed: PlacedList,
 ) -> Result<Checked, NoMemory>
     ensures pos { IfOk result (λ c. c.pos ≡ first_pos) }
-    ensures gives { IfOk result (λ c. option_map gives_of c.gives ≡ literal_given text.now (scope_of scope.now) whole (tree_elements elements.now) (placeds listed.placed.items)) }
-    ensures fault { IfOk result (λ c. IsLiteralFault (ShapeFails text.now (scope_of scope.now) first_pos whole (tree_elements elements.now)) (ElementsFail (placeds listed.placed.items)) listed.fault c.fault) }
+    ensures gives { IfOk result (λ c. option_map gives_of c.gives
+        ≡ literal_given text.now (scope_of scope.now) whole (tree_elements elements.now) (placeds listed.placed.items)) }
+    ensures fault { IfOk result (λ c. IsLiteralFault
+        (ShapeFails text.now (scope_of scope.now) first_pos whole (tree_elements elements.now))
+        (ElementsFail (placeds listed.placed.items)) listed.fault c.fault) }
 {
     let PlacedList { placed, fault } = listed;
     let shape = shape_fault(alloc, text, scope, first_pos, whole, elements)?;

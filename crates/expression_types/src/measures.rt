@@ -72,7 +72,8 @@ pub fn quiet_fault(
     arguments: &[Expr],
     items: &[Item],
 ) -> Option<Fault>
-    ensures { result ≡ quiet_fault text.now (scope_of scope.now) (callee_of callee.now) (trees_of arguments.now) (seens items.now) }
+    ensures { result ≡ quiet_fault text.now (scope_of scope.now) (callee_of callee.now) (trees_of arguments.now)
+        (seens items.now) }
 {
     let Callee::Measurer(_) = callee else {
         return None;

@@ -48,7 +48,8 @@ fn is_plain_at(
     decls: &[Decl],
     number: usize,
 ) -> Result<bool, NoMemory>
-    ensures { IfOk result (λ b. b ≡ is_plain (slice_get (functions_in text.now (scope_of heads.now) (declarations_of decls.now)) number)) }
+    ensures { IfOk result (λ b. b ≡ is_plain (slice_get
+        (functions_in text.now (scope_of heads.now) (declarations_of decls.now)) number)) }
 {
     let mut before = number;
     for decl in decls {
@@ -77,7 +78,9 @@ fn plain_number(
     decls: &[Decl],
     function: Option<FuncId>,
 ) -> Result<Option<FuncId>, NoMemory>
-    ensures { IfOk result (λ r. option_map (λ f. f.0) r ≡ plain_number (functions_in text.now (scope_of heads.now) (declarations_of decls.now)) (option_map (λ f. f.0) function)) }
+    ensures { IfOk result (λ r. option_map (λ f. f.0) r
+        ≡ plain_number (functions_in text.now (scope_of heads.now) (declarations_of decls.now))
+        (option_map (λ f. f.0) function)) }
 {
     let Some(function) = function else {
         return Ok(None);
@@ -98,7 +101,10 @@ pub fn main_number(
     package_name: Name,
     decls: &[Decl],
 ) -> Result<Option<FuncId>, NoMemory>
-    ensures { IfOk result (λ r. option_map (λ f. f.0) r ≡ (if is_main (spelled text.now package_name) then plain_number (functions_in text.now (scope_of heads.now) (declarations_of decls.now)) (number_of (declaration (scope_of scope.now) (codes "main"))) else None)) }
+    ensures { IfOk result (λ r. option_map (λ f. f.0) r
+        ≡ (if is_main (spelled text.now package_name) then plain_number
+        (functions_in text.now (scope_of heads.now) (declarations_of decls.now))
+        (number_of (declaration (scope_of scope.now) (codes "main"))) else None)) }
 {
     if is_main(spelled(text, package_name)) {
         let function = number_of(scope.declaration("main".as_bytes()));
@@ -140,7 +146,9 @@ fn external_fault(
     scope: &Scope,
     f: &Func,
 ) -> Result<Option<Fault>, NoMemory>
-    ensures { IfOk result (λ r. IsLeast (IsFault (external_name_fault (is_external text.now (scope_of heads.now) (function_of f.now)) (declaration (scope_of scope.now) (spelled text.now f.now.name)) f.now.name.pos)) r) }
+    ensures { IfOk result (λ r. IsLeast (IsFault
+        (external_name_fault (is_external text.now (scope_of heads.now) (function_of f.now))
+        (declaration (scope_of scope.now) (spelled text.now f.now.name)) f.now.name.pos)) r) }
 {
     let is_external = is_external(alloc, text, heads, f)?;
     let declared = scope.declaration(spelled(text, f.name));
@@ -169,7 +177,8 @@ fn function_fault(
     scope: &Scope,
     f: &Func,
 ) -> Result<Option<Fault>, NoMemory>
-    ensures { IfOk result (λ r. IsLeast (DeclarationFails text.now (scope_of heads.now) (scope_of scope.now) (function_item (function_of f.now))) r) }
+    ensures { IfOk result (λ r. IsLeast (DeclarationFails text.now (scope_of heads.now) (scope_of scope.now)
+        (function_item (function_of f.now))) r) }
 {
     let external = external_fault(alloc, text, heads, scope, f)?;
     let types = head_fault(alloc, text, scope, f)?;
@@ -184,7 +193,8 @@ fn declaration_fault(
     scope: &Scope,
     decl: &Decl,
 ) -> Result<Option<Fault>, NoMemory>
-    ensures { IfOk result (λ r. IsLeast (DeclarationFails text.now (scope_of heads.now) (scope_of scope.now) (declaration_of decl.now)) r) }
+    ensures { IfOk result (λ r. IsLeast (DeclarationFails text.now (scope_of heads.now) (scope_of scope.now)
+        (declaration_of decl.now)) r) }
 {
     match decl {
         Decl::Const(_, _) | Decl::Var(_, _) | Decl::Type(_, _) => Ok(None),
@@ -200,7 +210,8 @@ pub fn declaration_faults(
     scope: &Scope,
     decls: &[Decl],
 ) -> Result<Option<Fault>, NoMemory>
-    ensures { IfOk result (λ r. IsLeast (DeclarationsFail text.now (scope_of heads.now) (scope_of scope.now) (declarations_of decls.now)) r) }
+    ensures { IfOk result (λ r. IsLeast (DeclarationsFail text.now (scope_of heads.now) (scope_of scope.now)
+        (declarations_of decls.now)) r) }
 {
     let mut fault = None;
     for decl in decls {

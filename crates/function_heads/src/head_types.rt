@@ -74,7 +74,8 @@ fn with_field(
     heads: &Scope,
     field: &Field,
 ) -> Result<Vec<Slot>, NoMemory>
-    ensures { IfOk result (λ v. v.items ≡ slots.items ++ map (slot_of text.now (scope_of heads.now)) (field_params (field_of field.now))) }
+    ensures { IfOk result (λ v. v.items ≡ slots.items
+        ++ map (slot_of text.now (scope_of heads.now)) (field_params (field_of field.now))) }
 {
     let value_type = stated_in(alloc, text, heads, &field.type_expr)?;
     let mut slots = slots;
@@ -119,7 +120,9 @@ pub fn slots_of(
 }
 
 fn joined(params: Option<Vec<ValueType>>, results: Option<Vec<ValueType>>) -> Option<Signature>
-    ensures { option_map signature_of result ≡ option_and_then (λ ps. option_map (λ rs. record { params = ps; results = rs }) (option_map (λ v. v.items) results)) (option_map (λ v. v.items) params) }
+    ensures { option_map signature_of result ≡ option_and_then
+        (λ ps. option_map (λ rs. record { params = ps; results = rs }) (option_map (λ v. v.items) results))
+        (option_map (λ v. v.items) params) }
 {
     match (params, results) {
         (Some(params), Some(results)) => Some(Signature { params, results }),

@@ -44,7 +44,8 @@ pub struct Check {
 /// The fault of the name of a function of a number.
 #[tactic(auto, using(type_faults::proofs::Leasts::leaf))]
 fn name_fault(text: &[u8], scope: &Scope, number: usize, name: Name) -> Option<Fault>
-    ensures { IsLeast (IsFault (function_name_fault number (is_blank (spelled text.now name)) (declaration (scope_of scope.now) (spelled text.now name)) name.pos)) result }
+    ensures { IsLeast (IsFault (function_name_fault number (is_blank (spelled text.now name))
+        (declaration (scope_of scope.now) (spelled text.now name)) name.pos)) result }
 {
     let bytes = spelled(text, name);
     function_name_fault(number, is_blank(bytes), scope.declaration(bytes), name.pos)
@@ -63,7 +64,8 @@ fn number_fault(number: usize, pos: Pos) -> Option<Fault>
 }
 
 fn has_head(text: &[u8], scope: &Scope, number: usize, name: Name) -> bool
-    ensures { result ≡ (may_be_named number (is_blank (spelled text.now name)) (declaration (scope_of scope.now) (spelled text.now name)) && nat_lt number most_functions) }
+    ensures { result ≡ (may_be_named number (is_blank (spelled text.now name))
+        (declaration (scope_of scope.now) (spelled text.now name)) && nat_lt number most_functions) }
 {
     let bytes = spelled(text, name);
     may_be_named(number, is_blank(bytes), scope.declaration(bytes)) && number < MOST_FUNCTIONS
@@ -85,7 +87,8 @@ pub fn check_head(text: &[u8], scope: &Scope, number: usize, f: &Func) -> Check
 
 /// The words of a function's arguments and results, where all their types are known.
 pub fn check_words(alloc: Global, text: &[u8], heads: &Scope, f: &Func) -> Result<Check, NoMemory>
-    ensures is_allowed { IfOk result (λ p. p.is_allowed ≡ is_small (scope_of heads.now).types (signature_in text.now (scope_of heads.now) (function_of f.now))) }
+    ensures is_allowed { IfOk result (λ p. p.is_allowed
+        ≡ is_small (scope_of heads.now).types (signature_in text.now (scope_of heads.now) (function_of f.now))) }
     ensures fault { IfOk result (λ p. IsLeast (FailsInWords text.now (scope_of heads.now) (function_of f.now)) p.fault) }
 {
     let signature = signature_in(alloc, text, heads, f)?;
@@ -139,7 +142,9 @@ pub fn assemble(
     results: Option<Vec<Option<SiteId>>>,
     body: Option<Vec<typed::Stmt>>,
 ) -> Result<Option<typed::Func>, NoMemory>
-    ensures func { IfOk result (λ r. option_map (func_of (trees types.now)) r ≡ assembled types.now param_slots.now result_slots.now first behind (option_map (λ v. map site_in v.items) params) (option_map (λ v. map site_in v.items) results) (option_map (λ v. sts_of v.items) body)) }
+    ensures func { IfOk result (λ r. option_map (func_of (trees types.now)) r
+        ≡ assembled types.now param_slots.now result_slots.now first behind (option_map (λ v. map site_in v.items) params)
+        (option_map (λ v. map site_in v.items) results) (option_map (λ v. sts_of v.items) body)) }
     ensures pos { IfOk result (λ r. IsAt pos r) }
 {
     match (params, results, body) {
@@ -181,7 +186,8 @@ pub fn missing_body_fault(
     heads: &Scope,
     f: &Func,
 ) -> Result<Option<Fault>, NoMemory>
-    ensures { IfOk result (λ r. r ≡ missing_body_fault (signature_in text.now (scope_of heads.now) (function_of f.now)) (external_fault (function_of f.now))) }
+    ensures { IfOk result (λ r. r ≡ missing_body_fault (signature_in text.now (scope_of heads.now) (function_of f.now))
+        (external_fault (function_of f.now))) }
 {
     let signature = signature_in(alloc, text, heads, f)?;
     Ok(match signature {

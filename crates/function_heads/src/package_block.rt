@@ -69,14 +69,16 @@ fn external_named(name: &[u8]) -> External
 
 /// Whether a function has the name and the types of `exit`.
 fn has_exit_head(text: &[u8], f: &Func, signature: &Option<Signature>) -> bool
-    ensures { result ≡ (bytes_eq (spelled text.now f.now.name) (codes "exit") && is_of_exit (option_map signature_of signature.now)) }
+    ensures { result ≡ (bytes_eq (spelled text.now f.now.name) (codes "exit") && is_of_exit
+        (option_map signature_of signature.now)) }
 {
     spelled(text, f.name) == "exit".as_bytes() && is_of_exit(signature)
 }
 
 /// Whether a function has the name and the types of `readInt`, and no names for its results.
 fn has_read_int_head(text: &[u8], f: &Func, signature: &Option<Signature>) -> bool
-    ensures { result ≡ (bytes_eq (spelled text.now f.now.name) (codes "readInt") && (is_of_read_int (option_map signature_of signature.now) && not (is_named (parameters_of f.now.results)))) }
+    ensures { result ≡ (bytes_eq (spelled text.now f.now.name) (codes "readInt") &&
+        (is_of_read_int (option_map signature_of signature.now) && not (is_named (parameters_of f.now.results)))) }
 {
     let has_types = is_of_read_int(signature) && !is_named(&f.results);
     spelled(text, f.name) == "readInt".as_bytes() && has_types
@@ -111,7 +113,8 @@ fn add_function(
     scope: &mut Scope,
     f: &Func,
 ) -> Result<(), NoMemory>
-    ensures { OnOk result (scope_of scope.new ≡ with_function text.now (scope_of heads.now) (scope_of scope.old) (function_of f.now)) }
+    ensures { OnOk result (scope_of scope.new
+        ≡ with_function text.now (scope_of heads.now) (scope_of scope.old) (function_of f.now)) }
 {
     if is_external(alloc, text, heads, f)? {
         return add_name(
@@ -136,7 +139,8 @@ fn add_item(
     scope: &mut Scope,
     decl: &Decl,
 ) -> Result<(), NoMemory>
-    ensures { OnOk result (scope_of scope.new ≡ with_item text.now (scope_of heads.now) (scope_of scope.old) (declaration_of decl.now)) }
+    ensures { OnOk result (scope_of scope.new
+        ≡ with_item text.now (scope_of heads.now) (scope_of scope.old) (declaration_of decl.now)) }
 {
     match decl {
         Decl::Const(_, specs) => add_constants(text, scope, specs),
@@ -154,7 +158,8 @@ pub fn add_items(
     scope: &mut Scope,
     decls: &[Decl],
 ) -> Result<(), NoMemory>
-    ensures { OnOk result (scope_of scope.new ≡ with_items text.now (scope_of heads.now) (scope_of scope.old) (declarations_of decls.now)) }
+    ensures { OnOk result (scope_of scope.new
+        ≡ with_items text.now (scope_of heads.now) (scope_of scope.old) (declarations_of decls.now)) }
 {
     for decl in decls {
         add_item(alloc, text, heads, scope, decl)?;

@@ -84,7 +84,8 @@ pub fn callee_named(
     scope: &Scope,
     name: Name,
 ) -> Result<Callee, NoMemory>
-    ensures { IfOk result (λ c. callee_of c ≡ callee_declared (scope_of scope.now) (declaration (scope_of scope.now) (spelled text.now name))) }
+    ensures { IfOk result (λ c. callee_of c ≡ callee_declared (scope_of scope.now)
+        (declaration (scope_of scope.now) (spelled text.now name))) }
 {
     callee_declared(alloc, scope, scope.declaration(spelled(text, name)))
 }
@@ -146,7 +147,8 @@ fn refused_fault(count: Option<usize>, own: Fault) -> Option<Fault>
 
 /// The fault of a call that is refused for a kind, with these arguments.
 fn refused(kind: FaultKind, pos: Pos, arguments: &[Item]) -> Option<Fault>
-    ensures { IsLeast (λ f. ValuesFail (many (seens arguments.now)) (seens arguments.now) f ⊎ IsFault (refused_fault (count (seens arguments.now)) (fault_at kind pos)) f) result }
+    ensures { IsLeast (λ f. ValuesFail (many (seens arguments.now)) (seens arguments.now) f
+        ⊎ IsFault (refused_fault (count (seens arguments.now)) (fault_at kind pos)) f) result }
 {
     lesser(
         values_fault(arguments),
@@ -280,7 +282,8 @@ fn printed(
     line: bool,
     arguments: Vec<Item>,
 ) -> Result<Option<Gives>, NoMemory>
-    ensures { IfOk result (λ r. option_map gives_of r ≡ called_with pos (Rattle.given_values.specs.Given.printer line) (seens arguments.items)) }
+    ensures { IfOk result (λ r. option_map gives_of r
+        ≡ called_with pos (Rattle.given_values.specs.Given.printer line) (seens arguments.items)) }
 {
     match parts(alloc, arguments)? {
         Some(parts) => Ok(Some(Gives::Printed(pos, line, parts))),
@@ -302,7 +305,8 @@ fn panicked_with(pos: Pos, parts: Vec<Part>) -> Option<Gives>
 }
 
 fn panicked(alloc: Global, pos: Pos, arguments: Vec<Item>) -> Result<Option<Gives>, NoMemory>
-    ensures { IfOk result (λ r. option_map gives_of r ≡ called_with pos Rattle.given_values.specs.Given.panicker (seens arguments.items)) }
+    ensures { IfOk result (λ r. option_map gives_of r
+        ≡ called_with pos Rattle.given_values.specs.Given.panicker (seens arguments.items)) }
 {
     match parts(alloc, arguments)? {
         Some(parts) => Ok(panicked_with(pos, parts)),
@@ -354,7 +358,8 @@ fn exited_with(pos: Pos, values: Vec<Value>) -> Option<Gives>
 }
 
 fn exited(alloc: Global, pos: Pos, arguments: Vec<Item>) -> Result<Option<Gives>, NoMemory>
-    ensures { IfOk result (λ r. option_map gives_of r ≡ called_with pos Rattle.given_values.specs.Given.exiter (seens arguments.items)) }
+    ensures { IfOk result (λ r. option_map gives_of r
+        ≡ called_with pos Rattle.given_values.specs.Given.exiter (seens arguments.items)) }
 {
     if !fits(&EXIT_PLACES, &arguments) {
         return Ok(None);
@@ -373,7 +378,9 @@ fn called(
     results: Vec<ValueType>,
     arguments: Vec<Item>,
 ) -> Result<Option<Gives>, NoMemory>
-    ensures { IfOk result (λ r. option_map gives_of r ≡ called_with pos (Rattle.given_values.specs.Given.function function.0 places.now results.items) (seens arguments.items)) }
+    ensures { IfOk result (λ r. option_map gives_of r
+        ≡ called_with pos (Rattle.given_values.specs.Given.function function.0 places.now results.items)
+        (seens arguments.items)) }
 {
     match taken(alloc, places, arguments)? {
         Some(values) => {

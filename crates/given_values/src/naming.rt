@@ -74,7 +74,8 @@ fn value_of(alloc: Global, scope: &Scope, declared: Option<Declared>) -> Option<
 
 /// The constant or the variable that a name stands for.
 pub fn name_value(alloc: Global, text: &[u8], scope: &Scope, name: Name) -> Option<Gives>
-    ensures { option_map gives_of result ≡ option_map one (name_operand (scope_of scope.now) (declaration (scope_of scope.now) (spelled text.now name))) }
+    ensures { option_map gives_of result ≡ option_map one
+        (name_operand (scope_of scope.now) (declaration (scope_of scope.now) (spelled text.now name))) }
 {
     value_of(alloc, scope, scope.declaration(spelled(text, name)))
 }

@@ -223,7 +223,8 @@ impl Scope {
 
     /// Puts these strings after those of the statements so far.
     pub fn add_strings(&mut self, strings: Vec<Vec<u8>>) -> Result<(), NoMemory>
-        ensures { OnOk result (scope_of self.new ≡ with_strings (scope_of self.old) (map (λ string. string.items) strings.items)) }
+        ensures { OnOk result (scope_of self.new ≡ with_strings (scope_of self.old)
+            (map (λ string. string.items) strings.items)) }
     {
         let mut strings = strings;
         self.strings.append(&mut strings)?;

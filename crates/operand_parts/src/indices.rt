@@ -87,7 +87,8 @@ fn element_of(
     index: Operand,
     array: ArrayType,
 ) -> Result<Option<Operand>, NoMemory>
-    ensures { IfOk result (λ o. option_map operand_of o ≡ element_of pos (place_view place) (operand_of index) (array_view array)) }
+    ensures { IfOk result (λ o. option_map operand_of o
+        ≡ element_of pos (place_view place) (operand_of index) (array_view array)) }
 {
     let Some(step) = index_step(pos, array.length, index) else {
         drop(place);
@@ -123,7 +124,8 @@ pub fn indexed(
     whole: Option<Operand>,
     index: Option<Operand>,
 ) -> Result<Option<Operand>, NoMemory>
-    ensures { IfOk result (λ o. option_map operand_of o ≡ both (indexed types.now pos) (option_map operand_of whole) (option_map operand_of index)) }
+    ensures { IfOk result (λ o. option_map operand_of o
+        ≡ both (indexed types.now pos) (option_map operand_of whole) (option_map operand_of index)) }
 {
     match (whole, index) {
         (Some(whole), Some(index)) => element_at(types, pos, whole, index),

@@ -239,7 +239,8 @@ fn typed_shape_fault(
     whole: ValueType,
     elements: &[Element],
 ) -> Result<Option<Fault>, NoMemory>
-    ensures { IfOk result (λ r. IsLeast (TypedShapeFails text.now (scope_of scope.now) first_pos whole (elements_of elements.now)) r) }
+    ensures { IfOk result (λ r. IsLeast (TypedShapeFails text.now (scope_of scope.now) first_pos whole
+        (elements_of elements.now)) r) }
 {
     let form = form_fault(&scope.types, first_pos, whole, elements);
     match whole {

@@ -68,7 +68,8 @@ pub fn selected(
     name: Name,
     operand: Option<Operand>,
 ) -> Result<Option<Operand>, NoMemory>
-    ensures { IfOk result (λ o. option_map operand_of o ≡ option_and_then (selected text.now (scope_of scope.now) name) (option_map operand_of operand)) }
+    ensures { IfOk result (λ o. option_map operand_of o
+        ≡ option_and_then (selected text.now (scope_of scope.now) name) (option_map operand_of operand)) }
 {
     match operand {
         Some(operand) => field_of(alloc, text, scope, name, operand),

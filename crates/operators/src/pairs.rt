@@ -142,7 +142,8 @@ fn both_values(
     left: Operand,
     right: Operand,
 ) -> Result<Option<Operand>, NoMemory>
-    ensures { IfOk result (λ o. option_map operand_of o ≡ both_values pos op (as_value (operand_of left)) (as_value (operand_of right))) }
+    ensures { IfOk result (λ o. option_map operand_of o
+        ≡ both_values pos op (as_value (operand_of left)) (as_value (operand_of right))) }
 {
     match (as_value(left), as_value(right)) {
         (Some(x), Some(y)) => {
@@ -373,7 +374,8 @@ pub fn paired(
     left: Option<Operand>,
     right: Option<Operand>,
 ) -> Result<Option<Operand>, NoMemory>
-    ensures { IfOk result (λ o. option_map operand_of o ≡ both (combined pos op) (option_map operand_of left) (option_map operand_of right)) }
+    ensures { IfOk result (λ o. option_map operand_of o
+        ≡ both (combined pos op) (option_map operand_of left) (option_map operand_of right)) }
 {
     match (left, right) {
         (Some(left), Some(right)) => combined(alloc, op, pos, left, right),

@@ -193,7 +193,8 @@ fn initials_fault(
 ) -> Result<Option<Fault>, NoMemory>
     requires types { type_before stated.now ≡ option_map (stated_type text.now (scope_of scope.now)) (ex_in spec.now.type_expr) }
     requires values { seens items.now ≡ seen text.now (scope_of scope.now) (exs_of spec.now.values.items) }
-    ensures { IfOk result (λ r. IsLeast (InitialsFail text.now (scope_of scope.now) (is_bare (ex_in spec.now.type_expr) (exs_of spec.now.values.items)) pos (value_spec_of spec.now)) r) }
+    ensures { IfOk result (λ r. IsLeast (InitialsFail text.now (scope_of scope.now)
+        (is_bare (ex_in spec.now.type_expr) (exs_of spec.now.values.items)) pos (value_spec_of spec.now)) r) }
 {
     if is_bare(&spec.type_expr, &spec.values) {
         return Ok(None);
@@ -307,7 +308,8 @@ fn value_name_fault(
 }
 
 fn name_fault(text: &[u8], scope: &Scope, number: usize, name: Name) -> Option<Fault>
-    ensures { result ≡ value_name_fault number (is_blank (spelled text.now name)) (bytes_eq (spelled text.now name) (codes "init")) (declaration (scope_of scope.now) (spelled text.now name)) name.pos }
+    ensures { result ≡ value_name_fault number (is_blank (spelled text.now name))
+        (bytes_eq (spelled text.now name) (codes "init")) (declaration (scope_of scope.now) (spelled text.now name)) name.pos }
 {
     let bytes = spelled(text, name);
     value_name_fault(

@@ -39,7 +39,8 @@ fn add_valued<'a>(
     names: &'a [Name],
     values: &'a [Expr],
 ) -> Result<(), NoMemory>
-    ensures { OnOk result (item_views items.new.items ≡ item_views items.old.items ++ pairs role names.now (ex_in type_expr.now) (exs_of values.now) 0 names.now values.now) }
+    ensures { OnOk result (item_views items.new.items ≡ item_views items.old.items
+        ++ pairs role names.now (ex_in type_expr.now) (exs_of values.now) 0 names.now values.now) }
 {
     for index in 0..names.len().min(values.len()) {
         items.push(Item {
@@ -63,7 +64,8 @@ fn add_unvalued<'a>(
     names: &'a [Name],
     values: &'a [Expr],
 ) -> Result<(), NoMemory>
-    ensures { OnOk result (item_views items.new.items ≡ item_views items.old.items ++ unvalued role names.now (ex_in type_expr.now) (exs_of values.now) 0 names.now) }
+    ensures { OnOk result (item_views items.new.items ≡ item_views items.old.items
+        ++ unvalued role names.now (ex_in type_expr.now) (exs_of values.now) 0 names.now) }
 {
     for index in 0..names.len() {
         items.push(Item {
@@ -96,7 +98,8 @@ fn add_specs<'a>(
     role: Role,
     specs: &'a [ValueSpec],
 ) -> Result<(), NoMemory>
-    ensures { OnOk result (item_views items.new.items ≡ item_views items.old.items ++ items_in_specs role (value_specs_of specs.now)) }
+    ensures { OnOk result (item_views items.new.items ≡ item_views items.old.items
+        ++ items_in_specs role (value_specs_of specs.now)) }
 {
     for spec in specs {
         add_spec(items, role, spec)?;

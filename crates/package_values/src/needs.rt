@@ -114,7 +114,8 @@ fn add_names_waited(
     value: Option<&Expr>,
     values: &[Expr],
 ) -> Result<(), NoMemory>
-    ensures { OnOk result (names.new.items ≡ names.old.items ++ names_waited (option_map (λ e. ex_of e.now) value.entry) (exs_of values.now)) }
+    ensures { OnOk result (names.new.items ≡ names.old.items
+        ++ names_waited (option_map (λ e. ex_of e.now) value.entry) (exs_of values.now)) }
 {
     match value {
         Some(value) => add_names(names, value),

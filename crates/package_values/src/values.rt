@@ -81,7 +81,8 @@ fn constant_value(
     scope: &Scope,
     item: &Item,
 ) -> Result<Option<Fixed>, NoMemory>
-    ensures { IfOk result (λ r. r ≡ given_by text.now (scope_of scope.now) (item_of item.now).type_expr (item_of item.now).value) }
+    ensures { IfOk result (λ r. r ≡ given_by text.now (scope_of scope.now) (item_of item.now).type_expr
+        (item_of item.now).value) }
 {
     let Some(value) = item.value else {
         return Ok(None);
@@ -100,7 +101,8 @@ fn constant_value(
 
 /// The type at a place of the call that stands alone, where it has as many results as there are names.
 fn nth_type(items: &[given_values::Item], names: usize, place: usize) -> Option<ValueType>
-    ensures { result ≡ option_and_then (λ m. allowed (length m.types == names) (slice_get m.types place)) (many (seens items.now)) }
+    ensures { result ≡ option_and_then (λ m. allowed (length m.types == names) (slice_get m.types place))
+        (many (seens items.now)) }
 {
     match many_types(items) {
         Some((_, types)) if types.len() == names => types.get(place).copied(),
@@ -132,7 +134,8 @@ fn initial_type(
     scope: &Scope,
     item: &Item,
 ) -> Result<Option<ValueType>, NoMemory>
-    ensures { IfOk result (λ r. r ≡ initial_type text.now (scope_of scope.now) (item_of item.now).value (item_of item.now).values (length (item_of item.now).names) (item_of item.now).place) }
+    ensures { IfOk result (λ r. r ≡ initial_type text.now (scope_of scope.now) (item_of item.now).value
+        (item_of item.now).values (length (item_of item.now).names) (item_of item.now).place) }
 {
     match item.value {
         Some(value) => {
@@ -157,7 +160,8 @@ fn variable_type(
     scope: &Scope,
     item: &Item,
 ) -> Result<Option<ValueType>, NoMemory>
-    ensures { IfOk result (λ r. r ≡ variable_type text.now (scope_of scope.now) (item_of item.now).type_expr (item_of item.now).value (item_of item.now).values (length (item_of item.now).names) (item_of item.now).place) }
+    ensures { IfOk result (λ r. r ≡ variable_type text.now (scope_of scope.now) (item_of item.now).type_expr
+        (item_of item.now).value (item_of item.now).values (length (item_of item.now).names) (item_of item.now).place) }
 {
     match item.type_expr {
         Some(e) => Ok(check_stated(alloc, text, scope, e)?.value_type),
@@ -172,7 +176,8 @@ fn constant_known(
     scope: &Scope,
     item: &Item,
 ) -> Result<Option<Known>, NoMemory>
-    ensures { IfOk result (λ r. r ≡ option_map ConstantKnown (given_by text.now (scope_of scope.now) (item_of item.now).type_expr (item_of item.now).value)) }
+    ensures { IfOk result (λ r. r ≡ option_map ConstantKnown
+        (given_by text.now (scope_of scope.now) (item_of item.now).type_expr (item_of item.now).value)) }
 {
     match constant_value(alloc, text, scope, item)? {
         Some(fixed) => Ok(Some(Known::Constant(fixed))),
@@ -248,7 +253,8 @@ fn settle_all(
     items: &[Item],
     components: &[Component],
 ) -> Result<(), NoMemory>
-    ensures { OnOk result (scope_of scope.new ≡ all_given text.now (item_views items.now) (scope_of scope.old) (component_lists components.now)) }
+    ensures { OnOk result (scope_of scope.new
+        ≡ all_given text.now (item_views items.now) (scope_of scope.old) (component_lists components.now)) }
 {
     for component in components {
         settle_each(alloc, text, scope, items, &component.nodes)?;

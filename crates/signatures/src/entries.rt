@@ -96,7 +96,8 @@ fn entry_in(
 
 #[tactic(auto, using(type_faults::proofs::Leasts::leaf))]
 fn named_fault(text: &[u8], scope: &Scope, role: Role, name: Name) -> Option<Fault>
-    ensures { IsLeast (IsFault (named_fault role (is_blank (spelled text.now name)) (is_here (scope_of scope.now) (spelled text.now name)) name.pos)) result }
+    ensures { IsLeast (IsFault (named_fault role (is_blank (spelled text.now name))
+        (is_here (scope_of scope.now) (spelled text.now name)) name.pos)) result }
 {
     let bytes = spelled(text, name);
     named_fault_of(role, is_blank(bytes), scope.is_here(bytes), name.pos)
@@ -140,7 +141,8 @@ fn with_entry(
     entries: Option<Vec<Option<SiteId>>>,
     entry: Option<Option<SiteId>>,
 ) -> Result<Option<Vec<Option<SiteId>>>, NoMemory>
-    ensures { IfOk result (λ r. option_map (λ v. map site_in v.items) r ≡ with_last (option_map (λ v. map site_in v.items) entries) (option_map site_in entry)) }
+    ensures { IfOk result (λ r. option_map (λ v. map site_in v.items) r
+        ≡ with_last (option_map (λ v. map site_in v.items) entries) (option_map site_in entry)) }
 {
     match (entries, entry) {
         (Some(mut entries), Some(entry)) => {
@@ -159,7 +161,8 @@ pub fn check_entries(
     role: Role,
     slots: &[Slot],
 ) -> Result<Entries, NoMemory>
-    ensures entries { IfOk result (λ e. option_map (λ v. map site_in v.items) e.entries ≡ entries text.now role (scope_of scope.old) slots.now) }
+    ensures entries { IfOk result (λ e. option_map (λ v. map site_in v.items) e.entries
+        ≡ entries text.now role (scope_of scope.old) slots.now) }
     ensures fault { IfOk result (λ e. IsLeast (EntriesFail text.now role (scope_of scope.old) slots.now) e.fault) }
     ensures scope { OnOk result (scope_of scope.new ≡ behind_entries text.now (scope_of scope.old) slots.now) }
 {
@@ -175,7 +178,8 @@ pub fn check_entries(
 }
 
 fn with_site(sites: Vec<SiteId>, entry: Option<SiteId>) -> Result<Vec<SiteId>, NoMemory>
-    ensures { IfOk result (λ v. map (λ site. site.0) v.items ≡ map (λ site. site.0) sites.items ++ sites_of (site_in entry ∷ [])) }
+    ensures { IfOk result (λ v. map (λ site. site.0) v.items ≡ map (λ site. site.0) sites.items
+        ++ sites_of (site_in entry ∷ [])) }
 {
     let mut sites = sites;
     if let Some(site) = entry {
@@ -220,7 +224,8 @@ pub fn entry_lefts(
     alloc: Global,
     entries: &Option<Vec<Option<SiteId>>>,
 ) -> Result<Option<Vec<Left>>, NoMemory>
-    ensures { IfOk result (λ r. option_map (λ v. map left_view v.items) r ≡ option_map (map entry_left) (option_map (λ v. map site_in v.items) entries.now)) }
+    ensures { IfOk result (λ r. option_map (λ v. map left_view v.items) r
+        ≡ option_map (map entry_left) (option_map (λ v. map site_in v.items) entries.now)) }
 {
     match entries {
         Some(entries) => Ok(Some(lefts_of(alloc, entries)?)),

@@ -96,7 +96,8 @@ fn new_left(
     before: usize,
     name: Name,
 ) -> Result<Option<Left>, NoMemory>
-    ensures { IfOk result (λ l. option_map left_view l ≡ new_left text.now (scope_of scope.now) (length (scope_of scope.now).sites + before) name) }
+    ensures { IfOk result (λ l. option_map left_view l
+        ≡ new_left text.now (scope_of scope.now) (length (scope_of scope.now).sites + before) name) }
 {
     let bytes = spelled(text, name);
     let site = scope.site_behind(before)?;
@@ -152,7 +153,9 @@ fn next_count(declared: bool, count: usize) -> Result<usize, NoMemory>
 
 #[tactic(auto, using(type_faults::proofs::Leasts::leaf))]
 fn new_name_fault(text: &[u8], scope: &Scope, name: Name) -> Option<Fault>
-    ensures { IsLeast (IsFault (new_name_fault (is_blank (spelled text.now name)) (is_here (scope_of scope.now) (spelled text.now name)) (declaration (scope_of scope.now) (spelled text.now name)) name.pos)) result }
+    ensures { IsLeast (IsFault (new_name_fault (is_blank (spelled text.now name))
+        (is_here (scope_of scope.now) (spelled text.now name))
+        (declaration (scope_of scope.now) (spelled text.now name)) name.pos)) result }
 {
     let bytes = spelled(text, name);
     new_name_fault_of(
@@ -170,7 +173,8 @@ pub fn check_new_lefts(
     scope: &Scope,
     names: &[Name],
 ) -> Result<NewLefts, NoMemory>
-    ensures lefts { IfOk result (λ l. option_map (λ v. map left_view v.items) l.lefts ≡ new_lefts text.now (scope_of scope.now) (length (scope_of scope.now).sites) names.now) }
+    ensures lefts { IfOk result (λ l. option_map (λ v. map left_view v.items) l.lefts
+        ≡ new_lefts text.now (scope_of scope.now) (length (scope_of scope.now).sites) names.now) }
     ensures fault { IfOk result (λ l. IsLeast (NewNamesFail text.now (scope_of scope.now) names.now) l.fault) }
 {
     let mut lefts = Some(Vec::new(alloc));
@@ -201,7 +205,8 @@ fn with_declared(
     declared: Vec<Slot>,
     slot: Slot,
 ) -> Result<Vec<Slot>, NoMemory>
-    ensures { IfOk result (λ v. v.items ≡ (if slot_declares text.now (scope_of scope.now) slot.name then declared.items ++ slot ∷ [] else declared.items)) }
+    ensures { IfOk result (λ v. v.items ≡ (if slot_declares text.now (scope_of scope.now) slot.name then declared.items ++ slot
+        ∷ [] else declared.items)) }
 {
     let mut declared = declared;
     if slot_declares(text, scope, slot.name) {
@@ -312,7 +317,9 @@ pub fn check_names(
     pos: Pos,
 ) -> Result<Declaration, NoMemory>
     ensures is_allowed { IfOk result (λ d. d.is_allowed ≡ may_define text.now (scope_of scope.now) names.now) }
-    ensures fault { IfOk result (λ d. IsLeast (λ f. TwiceFails text.now ([] ∷ []) names.now f ⊎ IsFault (fault_where (has_all text.now (scope_of scope.now) names.now) (fault_at NothingNew pos)) f) d.fault) }
+    ensures fault { IfOk result (λ d. IsLeast
+        (λ f. TwiceFails text.now ([] ∷ []) names.now f
+        ⊎ IsFault (fault_where (has_all text.now (scope_of scope.now) names.now) (fault_at NothingNew pos)) f) d.fault) }
 {
     let twice = twice_fault(alloc, text, names)?;
     let all = has_all(text, scope, names);

@@ -47,8 +47,10 @@ pub fn numbered(scope: &mut Scope, part: Part) -> Result<Piece, NoMemory>
 
 /// The operands of a call.
 pub fn pieces(alloc: Global, scope: &mut Scope, parts: Vec<Part>) -> Result<Vec<Piece>, NoMemory>
-    ensures pieces { IfOk result (λ v. map piece_of v.items ≡ pieces_from (length (scope_of scope.old).strings) (map part_view parts.items)) }
-    ensures scope { OnOk result (scope_of scope.new ≡ with_strings (scope_of scope.old) (strings_of (map part_view parts.items))) }
+    ensures pieces { IfOk result (λ v. map piece_of v.items
+        ≡ pieces_from (length (scope_of scope.old).strings) (map part_view parts.items)) }
+    ensures scope { OnOk result (scope_of scope.new
+        ≡ with_strings (scope_of scope.old) (strings_of (map part_view parts.items))) }
 {
     let mut pieces = Vec::new(alloc);
     for part in parts {

@@ -114,7 +114,8 @@ pub fn with_left(
     lefts: Option<Vec<Left>>,
     left: Option<Left>,
 ) -> Result<Option<Vec<Left>>, NoMemory>
-    ensures { IfOk result (λ r. option_map (λ v. map left_view v.items) r ≡ with_last (option_map (λ v. map left_view v.items) lefts) (option_map left_view left)) }
+    ensures { IfOk result (λ r. option_map (λ v. map left_view v.items) r
+        ≡ with_last (option_map (λ v. map left_view v.items) lefts) (option_map left_view left)) }
 {
     match (lefts, left) {
         (Some(mut lefts), Some(left)) => {
@@ -143,7 +144,8 @@ pub fn left_fault_of(blank: bool, declared: Option<Declared>, pos: Pos, whole: P
 
 /// The fault of a name as a left side, which begins at a place.
 fn name_left_fault(text: &[u8], scope: &Scope, name: Name, whole: Pos) -> Option<Fault>
-    ensures { IsLeast (IsFault (left_fault (is_blank (spelled text.now name)) (declaration (scope_of scope.now) (spelled text.now name)) name.pos whole)) result }
+    ensures { IsLeast (IsFault (left_fault (is_blank (spelled text.now name))
+        (declaration (scope_of scope.now) (spelled text.now name)) name.pos whole)) result }
 {
     let bytes = spelled(text, name);
     left_fault_of(is_blank(bytes), scope.declaration(bytes), name.pos, whole)
@@ -165,7 +167,8 @@ fn place_fault(operand: &Option<Operand>, pos: Pos) -> Option<Fault>
 
 /// The fault of a left side that gives this.
 fn side_fault(text: &[u8], scope: &Scope, e: &Expr, single: &Single) -> Option<Fault>
-    requires operand { option_map operand_of single.now.operand ≡ operand_in (gives text.now (scope_of scope.now) (tree_of e.now)) }
+    requires operand { option_map operand_of single.now.operand
+        ≡ operand_in (gives text.now (scope_of scope.now) (tree_of e.now)) }
     requires fault { IsLeast (FailsAsOperand text.now (scope_of scope.now) (tree_of e.now)) single.now.fault }
     ensures { IsLeast (LeftSideFails text.now (scope_of scope.now) (name_in (tree_of e.now)) (tree_of e.now)) result }
 {
@@ -187,8 +190,10 @@ fn is_blank_name(text: &[u8], name: Option<Name>) -> bool
 /// A left side.
 fn check_side(alloc: Global, text: &[u8], scope: &Scope, e: &Expr) -> Result<Side, NoMemory>
     ensures blank { IfOk result (λ c. c.is_blank ≡ is_blank_name text.now (name_in (tree_of e.now))) }
-    ensures place { IfOk result (λ c. option_map typed_place_of c.place ≡ place_in text.now (scope_of scope.now) (tree_of e.now)) }
-    ensures fault { IfOk result (λ c. IsLeast (LeftSideFails text.now (scope_of scope.now) (name_in (tree_of e.now)) (tree_of e.now)) c.fault) }
+    ensures place { IfOk result (λ c. option_map typed_place_of c.place
+        ≡ place_in text.now (scope_of scope.now) (tree_of e.now)) }
+    ensures fault { IfOk result (λ c. IsLeast
+        (LeftSideFails text.now (scope_of scope.now) (name_in (tree_of e.now)) (tree_of e.now)) c.fault) }
 {
     let single = check_single(alloc, text, scope, e)?;
     let fault = side_fault(text, scope, e, &single);
@@ -206,7 +211,8 @@ pub fn check_lefts(
     scope: &Scope,
     es: &[Expr],
 ) -> Result<Lefts, NoMemory>
-    ensures lefts { IfOk result (λ l. option_map (λ v. map left_view v.items) l.lefts ≡ lefts text.now (scope_of scope.now) (trees_of es.now)) }
+    ensures lefts { IfOk result (λ l. option_map (λ v. map left_view v.items) l.lefts
+        ≡ lefts text.now (scope_of scope.now) (trees_of es.now)) }
     ensures wanted { IfOk result (λ l. l.wanted.items ≡ all_wanted text.now (scope_of scope.now) (trees_of es.now)) }
     ensures fault { IfOk result (λ l. IsLeast (LeftsFail text.now (scope_of scope.now) (trees_of es.now)) l.fault) }
 {
@@ -241,7 +247,8 @@ fn own_fault_of(blank: bool, declared: Option<Declared>, pos: Pos, whole: Pos) -
 
 /// The fault of a name whose value is asked for, as a left side that begins at a place.
 fn name_own_fault(text: &[u8], scope: &Scope, name: Name, whole: Pos) -> Option<Fault>
-    ensures { IsLeast (IsFault (own_fault (is_blank (spelled text.now name)) (declaration (scope_of scope.now) (spelled text.now name)) name.pos whole)) result }
+    ensures { IsLeast (IsFault (own_fault (is_blank (spelled text.now name))
+        (declaration (scope_of scope.now) (spelled text.now name)) name.pos whole)) result }
 {
     let bytes = spelled(text, name);
     own_fault_of(is_blank(bytes), scope.declaration(bytes), name.pos, whole)
@@ -261,7 +268,8 @@ fn own_side_fault(text: &[u8], scope: &Scope, e: &Expr, fault: Option<Fault>) ->
 /// A left side whose value is asked for.
 pub fn check_own(alloc: Global, text: &[u8], scope: &Scope, e: &Expr) -> Result<Own, NoMemory>
     ensures value { IfOk result (λ o. option_map operand_of o.value ≡ own_value text.now (scope_of scope.now) (tree_of e.now)) }
-    ensures fault { IfOk result (λ o. IsLeast (OwnSideFails text.now (scope_of scope.now) (name_in (tree_of e.now)) (tree_of e.now)) o.fault) }
+    ensures fault { IfOk result (λ o. IsLeast
+        (OwnSideFails text.now (scope_of scope.now) (name_in (tree_of e.now)) (tree_of e.now)) o.fault) }
 {
     let side = check_side(alloc, text, scope, e)?;
     let fault = own_side_fault(text, scope, e, side.fault);

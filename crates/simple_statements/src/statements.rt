@@ -74,7 +74,8 @@ pub fn left_out(pos: Pos) -> Line
 
 /// A declaration or an assignment, where its left sides and values are known.
 pub fn assignment(lefts: Option<Vec<Left>>, values: Option<Values>) -> Option<typed::Stmt>
-    ensures { option_map st_of result ≡ assignment (option_map (λ v. map left_view v.items) lefts) (option_map exs_of_values values) }
+    ensures { option_map st_of result ≡ assignment (option_map (λ v. map left_view v.items) lefts)
+        (option_map exs_of_values values) }
 {
     match (lefts, values) {
         (Some(lefts), Some(values)) => Some(typed::Stmt::Assign(lefts, values)),
@@ -87,7 +88,8 @@ fn assignment_where(
     lefts: Option<Vec<Left>>,
     values: Option<Values>,
 ) -> Option<typed::Stmt>
-    ensures { option_map st_of result ≡ (if is_allowed then assignment (option_map (λ v. map left_view v.items) lefts) (option_map exs_of_values values) else None) }
+    ensures { option_map st_of result ≡ (if is_allowed then assignment (option_map (λ v. map left_view v.items) lefts)
+        (option_map exs_of_values values) else None) }
 {
     if is_allowed {
         assignment(lefts, values)
@@ -98,7 +100,8 @@ fn assignment_where(
 
 /// The types of values that may be taken.
 pub fn types_where(values: &Option<Values>, types: Option<Vec<ValueType>>) -> Option<Vec<ValueType>>
-    ensures { option_map (λ v. v.items) result ≡ option_and_then (λ v. option_map (λ v. v.items) types) (option_map exs_of_values values.now) }
+    ensures { option_map (λ v. v.items) result
+        ≡ option_and_then (λ v. option_map (λ v. v.items) types) (option_map exs_of_values values.now) }
 {
     match values {
         Some(_) => types,
@@ -115,9 +118,12 @@ fn check_define(
     pos: Pos,
     es: &[Expr],
 ) -> Result<Line, NoMemory>
-    ensures statement { IfOk result (λ c. option_map st_of c.statement ≡ simple_statement text.now (scope_of scope.old) (define names.now pos (trees_of es.now))) }
-    ensures fault { IfOk result (λ c. IsLeast (FailsInDefinition text.now (scope_of scope.old) names.now pos (trees_of es.now)) c.fault) }
-    ensures scope { OnOk result (scope_of scope.new ≡ behind_simple text.now (scope_of scope.old) (define names.now pos (trees_of es.now))) }
+    ensures statement { IfOk result (λ c. option_map st_of c.statement
+        ≡ simple_statement text.now (scope_of scope.old) (define names.now pos (trees_of es.now))) }
+    ensures fault { IfOk result (λ c. IsLeast
+        (FailsInDefinition text.now (scope_of scope.old) names.now pos (trees_of es.now)) c.fault) }
+    ensures scope { OnOk result (scope_of scope.new
+        ≡ behind_simple text.now (scope_of scope.old) (define names.now pos (trees_of es.now))) }
 {
     let right = check_list(alloc, text, scope, es)?;
     let wanted = all_new_wanted(alloc, text, scope, names)?;
@@ -166,8 +172,12 @@ fn check_assign(
     pos: Pos,
     es: &[Expr],
 ) -> Result<Line, NoMemory>
-    ensures statement { IfOk result (λ c. option_map st_of c.statement ≡ assignment (lefts text.now (scope_of scope.now) (trees_of places.now)) (taken (all_wanted text.now (scope_of scope.now) (trees_of places.now)) (seen text.now (scope_of scope.now) (trees_of es.now)))) }
-    ensures fault { IfOk result (λ c. IsLeast (FailsInAssignment text.now (scope_of scope.now) (trees_of places.now) pos (trees_of es.now)) c.fault) }
+    ensures statement { IfOk result (λ c. option_map st_of c.statement
+        ≡ assignment (lefts text.now (scope_of scope.now) (trees_of places.now))
+        (taken (all_wanted text.now (scope_of scope.now) (trees_of places.now))
+        (seen text.now (scope_of scope.now) (trees_of es.now)))) }
+    ensures fault { IfOk result (λ c. IsLeast
+        (FailsInAssignment text.now (scope_of scope.now) (trees_of places.now) pos (trees_of es.now)) c.fault) }
 {
     let left = check_lefts(alloc, text, scope, places)?;
     let listed = check_list(alloc, text, scope, es)?;
@@ -193,8 +203,10 @@ fn expressed(
     scope: &mut Scope,
     gives: Option<Gives>,
 ) -> Result<Option<typed::Stmt>, NoMemory>
-    ensures statement { IfOk result (λ r. option_map st_of r ≡ option_and_then (expressed (length (scope_of scope.old).strings)) (option_map gives_of gives)) }
-    ensures scope { OnOk result (scope_of scope.new ≡ with_strings (scope_of scope.old) (strings_in (option_map gives_of gives))) }
+    ensures statement { IfOk result (λ r. option_map st_of r
+        ≡ option_and_then (expressed (length (scope_of scope.old).strings)) (option_map gives_of gives)) }
+    ensures scope { OnOk result (scope_of scope.new
+        ≡ with_strings (scope_of scope.old) (strings_in (option_map gives_of gives))) }
 {
     match gives {
         Some(Gives::Called(_, _, function, arguments)) => {
@@ -229,7 +241,8 @@ fn use_fault(gives: &Option<Gives>, pos: Pos) -> Option<Fault>
 
 /// An expression as a statement.
 fn check_express(alloc: Global, text: &[u8], scope: &mut Scope, e: &Expr) -> Result<Line, NoMemory>
-    ensures statement { IfOk result (λ c. option_map st_of c.statement ≡ simple_statement text.now (scope_of scope.old) (express (tree_of e.now))) }
+    ensures statement { IfOk result (λ c. option_map st_of c.statement
+        ≡ simple_statement text.now (scope_of scope.old) (express (tree_of e.now))) }
     ensures fault { IfOk result (λ c. IsLeast (FailsInSimple text.now (scope_of scope.old) (express (tree_of e.now))) c.fault) }
     ensures scope { OnOk result (scope_of scope.new ≡ behind_simple text.now (scope_of scope.old) (express (tree_of e.now))) }
 {
@@ -249,7 +262,8 @@ pub fn check_simple(
     scope: &mut Scope,
     s: &Simple,
 ) -> Result<Line, NoMemory>
-    ensures statement { IfOk result (λ c. option_map st_of c.statement ≡ simple_statement text.now (scope_of scope.old) (simple_of s.now)) }
+    ensures statement { IfOk result (λ c. option_map st_of c.statement
+        ≡ simple_statement text.now (scope_of scope.old) (simple_of s.now)) }
     ensures fault { IfOk result (λ c. IsLeast (FailsInSimple text.now (scope_of scope.old) (simple_of s.now)) c.fault) }
     ensures scope { OnOk result (scope_of scope.new ≡ behind_simple text.now (scope_of scope.old) (simple_of s.now)) }
 {
@@ -325,8 +339,11 @@ pub fn check_return(
     pos: Pos,
     es: &[Expr],
 ) -> Result<Line, NoMemory>
-    ensures statement { IfOk result (λ c. option_map st_of c.statement ≡ returned (returns_view returns.now) (seen text.now (scope_of scope.now) (trees_of es.now))) }
-    ensures fault { IfOk result (λ c. IsLeast (λ f. FailsInEach text.now (scope_of scope.now) (trees_of es.now) f ⊎ ReturnFails pos (returns_view returns.now) (seen text.now (scope_of scope.now) (trees_of es.now)) f) c.fault) }
+    ensures statement { IfOk result (λ c. option_map st_of c.statement
+        ≡ returned (returns_view returns.now) (seen text.now (scope_of scope.now) (trees_of es.now))) }
+    ensures fault { IfOk result (λ c. IsLeast
+        (λ f. FailsInEach text.now (scope_of scope.now) (trees_of es.now) f
+        ⊎ ReturnFails pos (returns_view returns.now) (seen text.now (scope_of scope.now) (trees_of es.now)) f) c.fault) }
 {
     let listed = check_list(alloc, text, scope, es)?;
     let own = return_fault(pos, returns, &listed.items);

@@ -106,8 +106,14 @@ fn check_one(
     op: ArithmeticOp,
     value: &Expr,
 ) -> Result<Line, NoMemory>
-    ensures statement { IfOk result (λ c. option_map st_of c.statement ≡ update_one text.now (scope_of scope.now) pos op (tree_of e.now) (tree_of value.now)) }
-    ensures fault { IfOk result (λ c. IsLeast (λ f. (OwnSideFails text.now (scope_of scope.now) (name_in (tree_of e.now)) (tree_of e.now) f ⊎ FailsAsOperand text.now (scope_of scope.now) (tree_of value.now) f) ⊎ IsFault (pair_fault (first_pos (tree_of e.now)) (first_pos (tree_of value.now)) (ArithmeticOf op) (own_value text.now (scope_of scope.now) (tree_of e.now)) (operand_in (gives text.now (scope_of scope.now) (tree_of value.now)))) f) c.fault) }
+    ensures statement { IfOk result (λ c. option_map st_of c.statement
+        ≡ update_one text.now (scope_of scope.now) pos op (tree_of e.now) (tree_of value.now)) }
+    ensures fault { IfOk result (λ c. IsLeast
+        (λ f. (OwnSideFails text.now (scope_of scope.now) (name_in (tree_of e.now)) (tree_of e.now) f
+        ⊎ FailsAsOperand text.now (scope_of scope.now) (tree_of value.now) f)
+        ⊎ IsFault (pair_fault (first_pos (tree_of e.now)) (first_pos (tree_of value.now)) (ArithmeticOf op)
+        (own_value text.now (scope_of scope.now) (tree_of e.now))
+        (operand_in (gives text.now (scope_of scope.now) (tree_of value.now)))) f) c.fault) }
 {
     let left = check_own(alloc, text, scope, e)?;
     let right = check_single(alloc, text, scope, value)?;
@@ -145,7 +151,14 @@ fn check_refused(
     es: &[Expr],
 ) -> Result<Line, NoMemory>
     ensures statement { IfOk result (λ c. option_map st_of c.statement ≡ None) }
-    ensures fault { IfOk result (λ c. IsLeast (λ f. ((OwnSidesFail text.now (scope_of scope.now) (trees_of lefts.now) f ⊎ FailsInEach text.now (scope_of scope.now) (trees_of es.now) f) ⊎ ValuesFail (many (seen text.now (scope_of scope.now) (trees_of es.now))) (seen text.now (scope_of scope.now) (trees_of es.now)) f) ⊎ IsFault (refused_fault (given_count (have_values text.now (scope_of scope.now) (trees_of lefts.now)) (seen text.now (scope_of scope.now) (trees_of es.now))) (fault_at WrongNumber (lefts_place (trees_of lefts.now) pos))) f) c.fault) }
+    ensures fault { IfOk result (λ c. IsLeast
+        (λ f. ((OwnSidesFail text.now (scope_of scope.now) (trees_of lefts.now) f
+        ⊎ FailsInEach text.now (scope_of scope.now) (trees_of es.now) f)
+        ⊎ ValuesFail (many (seen text.now (scope_of scope.now) (trees_of es.now)))
+        (seen text.now (scope_of scope.now) (trees_of es.now)) f)
+        ⊎ IsFault (refused_fault (given_count (have_values text.now (scope_of scope.now) (trees_of lefts.now))
+        (seen text.now (scope_of scope.now) (trees_of es.now)))
+        (fault_at WrongNumber (lefts_place (trees_of lefts.now) pos))) f) c.fault) }
 {
     let sides = check_sides(alloc, text, scope, lefts)?;
     let listed = check_list(alloc, text, scope, es)?;
@@ -182,8 +195,10 @@ pub fn check_update(
     op: ArithmeticOp,
     es: &[Expr],
 ) -> Result<Line, NoMemory>
-    ensures statement { IfOk result (λ c. option_map st_of c.statement ≡ update_statement text.now (scope_of scope.now) pos op (only (trees_of lefts.now)) (only (trees_of es.now))) }
-    ensures fault { IfOk result (λ c. IsLeast (FailsInUpdate text.now (scope_of scope.now) (trees_of lefts.now) pos op (trees_of es.now)) c.fault) }
+    ensures statement { IfOk result (λ c. option_map st_of c.statement
+        ≡ update_statement text.now (scope_of scope.now) pos op (only (trees_of lefts.now)) (only (trees_of es.now))) }
+    ensures fault { IfOk result (λ c. IsLeast
+        (FailsInUpdate text.now (scope_of scope.now) (trees_of lefts.now) pos op (trees_of es.now)) c.fault) }
 {
     match only(lefts) {
         Some(left) => match only(es) {
@@ -229,7 +244,8 @@ pub fn check_step(
     op: BinOp,
     e: &Expr,
 ) -> Result<Line, NoMemory>
-    ensures statement { IfOk result (λ c. option_map st_of c.statement ≡ step_statement text.now (scope_of scope.now) pos op (tree_of e.now)) }
+    ensures statement { IfOk result (λ c. option_map st_of c.statement
+        ≡ step_statement text.now (scope_of scope.now) pos op (tree_of e.now)) }
     ensures fault { IfOk result (λ c. IsLeast (FailsInStep text.now (scope_of scope.now) (tree_of e.now)) c.fault) }
 {
     let left = check_own(alloc, text, scope, e)?;

@@ -48,9 +48,14 @@ fn check_values(
     stated: &Option<Stated>,
 ) -> Result<Given, NoMemory>
     requires { type_before stated.now ≡ option_map (stated_type text.now (scope_of scope.now)) (ex_in spec.now.type_expr) }
-    ensures values { IfOk result (λ g. option_map exs_of_values g.values ≡ taken (spec_wanted text.now (scope_of scope.now) (value_spec_of spec.now)) (seen text.now (scope_of scope.now) (trees_of spec.now.values.items))) }
-    ensures types { IfOk result (λ g. option_map (λ v. v.items) g.types ≡ taken_types (spec_wanted text.now (scope_of scope.now) (value_spec_of spec.now)) (seen text.now (scope_of scope.now) (trees_of spec.now.values.items))) }
-    ensures fault { IfOk result (λ g. IsLeast (SpecTakeFails text.now (scope_of scope.now) pos (value_spec_of spec.now)) g.fault) }
+    ensures values { IfOk result (λ g. option_map exs_of_values g.values
+        ≡ taken (spec_wanted text.now (scope_of scope.now) (value_spec_of spec.now))
+        (seen text.now (scope_of scope.now) (trees_of spec.now.values.items))) }
+    ensures types { IfOk result (λ g. option_map (λ v. v.items) g.types
+        ≡ taken_types (spec_wanted text.now (scope_of scope.now) (value_spec_of spec.now))
+        (seen text.now (scope_of scope.now) (trees_of spec.now.values.items))) }
+    ensures fault { IfOk result (λ g. IsLeast
+        (SpecTakeFails text.now (scope_of scope.now) pos (value_spec_of spec.now)) g.fault) }
 {
     let listed = check_list(alloc, text, scope, &spec.values)?;
     let wanted = spec_wanted(alloc, stated, &spec.names)?;
@@ -89,7 +94,8 @@ fn declared(
     alloc: Global,
     entries: &Option<Vec<Option<SiteId>>>,
 ) -> Result<Option<typed::Stmt>, NoMemory>
-    ensures { IfOk result (λ r. option_map st_of r ≡ option_map (λ es. declare (sites_of es)) (option_map (λ v. map site_in v.items) entries.now)) }
+    ensures { IfOk result (λ r. option_map st_of r
+        ≡ option_map (λ es. declare (sites_of es)) (option_map (λ v. map site_in v.items) entries.now)) }
 {
     match entries {
         Some(entries) => Ok(Some(typed::Stmt::Declare(sites_of(alloc, entries)?))),
@@ -139,8 +145,11 @@ fn check_bare(
 ) -> Result<Line, NoMemory>
     requires types { type_before stated.now ≡ option_map (stated_type text.now (scope_of scope.old)) (ex_in spec.now.type_expr) }
     requires bare { is_bare (ex_in spec.now.type_expr) (trees_of spec.now.values.items) ≡ true }
-    ensures statement { IfOk result (λ c. option_map st_of c.statement ≡ spec_declared text.now (scope_of scope.old) (value_spec_of spec.now)) }
-    ensures fault { IfOk result (λ c. IsLeast (EntriesFail text.now Parameter (scope_of scope.old) (spec_slots text.now (scope_of scope.old) (value_spec_of spec.now))) c.fault) }
+    ensures statement { IfOk result (λ c. option_map st_of c.statement
+        ≡ spec_declared text.now (scope_of scope.old) (value_spec_of spec.now)) }
+    ensures fault { IfOk result (λ c. IsLeast
+        (EntriesFail text.now Parameter (scope_of scope.old)
+        (spec_slots text.now (scope_of scope.old) (value_spec_of spec.now))) c.fault) }
     ensures scope { OnOk result (scope_of scope.new ≡ behind_spec text.now (scope_of scope.old) (value_spec_of spec.now)) }
 {
     let slots = spec_slots(alloc, stated, &spec.names, &None)?;
@@ -161,8 +170,12 @@ fn check_given(
     stated: &Option<Stated>,
 ) -> Result<Line, NoMemory>
     requires types { type_before stated.now ≡ option_map (stated_type text.now (scope_of scope.old)) (ex_in spec.now.type_expr) }
-    ensures statement { IfOk result (λ c. option_map st_of c.statement ≡ spec_assigned text.now (scope_of scope.old) (value_spec_of spec.now)) }
-    ensures fault { IfOk result (λ c. IsLeast (λ f. SpecTakeFails text.now (scope_of scope.old) pos (value_spec_of spec.now) f ⊎ EntriesFail text.now Parameter (scope_of scope.old) (spec_slots text.now (scope_of scope.old) (value_spec_of spec.now)) f) c.fault) }
+    ensures statement { IfOk result (λ c. option_map st_of c.statement
+        ≡ spec_assigned text.now (scope_of scope.old) (value_spec_of spec.now)) }
+    ensures fault { IfOk result (λ c. IsLeast
+        (λ f. SpecTakeFails text.now (scope_of scope.old) pos (value_spec_of spec.now) f
+        ⊎ EntriesFail text.now Parameter (scope_of scope.old)
+        (spec_slots text.now (scope_of scope.old) (value_spec_of spec.now)) f) c.fault) }
     ensures scope { OnOk result (scope_of scope.new ≡ behind_spec text.now (scope_of scope.old) (value_spec_of spec.now)) }
 {
     let given = check_values(alloc, text, scope, pos, spec, stated)?;
@@ -185,8 +198,15 @@ fn check_names(
     stated: &Option<Stated>,
 ) -> Result<Line, NoMemory>
     requires types { type_before stated.now ≡ option_map (stated_type text.now (scope_of scope.old)) (ex_in spec.now.type_expr) }
-    ensures statement { IfOk result (λ c. option_map st_of c.statement ≡ (if is_bare (ex_in spec.now.type_expr) (trees_of spec.now.values.items) then spec_declared text.now (scope_of scope.old) (value_spec_of spec.now) else spec_assigned text.now (scope_of scope.old) (value_spec_of spec.now))) }
-    ensures fault { IfOk result (λ c. IsLeast (λ f. SpecValuesFail text.now (is_bare (ex_in spec.now.type_expr) (trees_of spec.now.values.items)) (scope_of scope.old) pos (value_spec_of spec.now) f ⊎ EntriesFail text.now Parameter (scope_of scope.old) (spec_slots text.now (scope_of scope.old) (value_spec_of spec.now)) f) c.fault) }
+    ensures statement { IfOk result (λ c. option_map st_of c.statement
+        ≡ (if is_bare (ex_in spec.now.type_expr) (trees_of spec.now.values.items) then spec_declared text.now
+        (scope_of scope.old) (value_spec_of spec.now) else spec_assigned text.now (scope_of scope.old)
+        (value_spec_of spec.now))) }
+    ensures fault { IfOk result (λ c. IsLeast
+        (λ f. SpecValuesFail text.now (is_bare (ex_in spec.now.type_expr) (trees_of spec.now.values.items))
+        (scope_of scope.old) pos (value_spec_of spec.now) f
+        ⊎ EntriesFail text.now Parameter (scope_of scope.old)
+        (spec_slots text.now (scope_of scope.old) (value_spec_of spec.now)) f) c.fault) }
     ensures scope { OnOk result (scope_of scope.new ≡ behind_spec text.now (scope_of scope.old) (value_spec_of spec.now)) }
 {
     if is_bare(spec) {
@@ -204,7 +224,8 @@ fn check_spec(
     pos: Pos,
     spec: &ValueSpec,
 ) -> Result<Line, NoMemory>
-    ensures statement { IfOk result (λ c. option_map st_of c.statement ≡ spec_statement text.now (scope_of scope.old) (value_spec_of spec.now)) }
+    ensures statement { IfOk result (λ c. option_map st_of c.statement
+        ≡ spec_statement text.now (scope_of scope.old) (value_spec_of spec.now)) }
     ensures fault { IfOk result (λ c. IsLeast (FailsInSpec text.now (scope_of scope.old) pos (value_spec_of spec.now)) c.fault) }
     ensures scope { OnOk result (scope_of scope.new ≡ behind_spec text.now (scope_of scope.old) (value_spec_of spec.now)) }
 {
@@ -240,8 +261,10 @@ pub fn check_var(
     pos: Pos,
     specs: &[ValueSpec],
 ) -> Result<Lines, NoMemory>
-    ensures statements { IfOk result (λ c. option_map (λ v. sts_of v.items) c.statements ≡ spec_statements text.now (scope_of scope.old) (value_specs_of specs.now)) }
-    ensures fault { IfOk result (λ c. IsLeast (FailsInSpecs text.now (scope_of scope.old) pos (value_specs_of specs.now)) c.fault) }
+    ensures statements { IfOk result (λ c. option_map (λ v. sts_of v.items) c.statements
+        ≡ spec_statements text.now (scope_of scope.old) (value_specs_of specs.now)) }
+    ensures fault { IfOk result (λ c. IsLeast
+        (FailsInSpecs text.now (scope_of scope.old) pos (value_specs_of specs.now)) c.fault) }
     ensures scope { OnOk result (scope_of scope.new ≡ behind_specs text.now (scope_of scope.old) (value_specs_of specs.now)) }
 {
     let mut statements = Some(Vec::new(alloc));

@@ -46,7 +46,8 @@ fn are_added(added: Added, c: u16, d: u16, w: u16) -> bool
 
 /// Whether an instruction may stand there; of those that are tried here.
 pub(crate) fn fits(instr: Instr) -> bool
-    ensures { IsTrue result → let fn : Func = record { frame = 9; arguments = 2; results = 1; start = 0 } in Fits (0 ∷ (0 ∷ [])) (fn ∷ []) 0 0 0 7 3 instr }
+    ensures { IsTrue result → let fn : Func = record { frame = 9; arguments = 2; results = 1; start = 0 } in Fits
+        (0 ∷ (0 ∷ [])) (fn ∷ []) 0 0 0 7 3 instr }
 {
     match instr {
         Instr::Zero { a, n } => n >= 1 && are_slots(a, n),
@@ -92,7 +93,8 @@ pub(crate) fn fits(instr: Instr) -> bool
 /// A code of an instruction and a return.
 #[tactic(auto, using(crate::proofs::Alone::alone))]
 pub(crate) fn code_with(alloc: Global, instr: Instr) -> Result<Code, AllocError>
-    requires { let fn : Func = record { frame = 9; arguments = 2; results = 1; start = 0 } in Fits (0 ∷ (0 ∷ [])) (fn ∷ []) 0 0 0 7 3 instr }
+    requires { let fn : Func = record { frame = 9; arguments = 2; results = 1; start = 0 } in Fits (0 ∷ (0 ∷ []))
+        (fn ∷ []) 0 0 0 7 3 instr }
 {
     let instrs = vec![in alloc; instr, Instr::Return]?;
     let owners = vec![in alloc; 0, 0]?;

@@ -129,7 +129,8 @@ fn enter_struct(
     requires untold { IsUntold table.old }
     requires fit { StructFits (sized_struct verdict (fields_of declared.now)) }
     ensures entered { OnOk result (table.new ≡ with_struct table.old (sized_struct verdict (fields_of declared.now))) }
-    ensures told { IfOk result (λ ids. IsToldAs table.new (sized_struct verdict (fields_of declared.now)) (option_map (λ l. l.items) ids)) }
+    ensures told { IfOk result (λ ids. IsToldAs table.new (sized_struct verdict (fields_of declared.now))
+        (option_map (λ l. l.items) ids)) }
     ensures formed { IsFormed table.new }
 {
     match verdict {
@@ -150,7 +151,8 @@ pub fn enter_structs(
     requires size { length verdicts.now ≡ length structs.now }
     requires fit { StructsFit (sized_structs (structs_of structs.now) verdicts.now) }
     ensures entered { OnOk result (table.new ≡ fold with_struct table.old (sized_structs (structs_of structs.now) verdicts.now)) }
-    ensures told { IfOk result (λ all. AreToldAs table.new (sized_structs (structs_of structs.now) verdicts.now) (lists_of all.items)) }
+    ensures told { IfOk result (λ all. AreToldAs table.new (sized_structs (structs_of structs.now) verdicts.now)
+        (lists_of all.items)) }
     ensures formed { IsFormed table.new }
 {
     let mut all = Vec::with_capacity(alloc, structs.len())?;

@@ -107,7 +107,8 @@ pub fn words_when_told(
     requires words { words ≤ 65535 }
     requires structs { (s : ℕ) → is_over (struct_words structs.now s) ≡ false }
     ensures { MatchResult result
-        (λ w. (w ≡ told_by before.now structs.now id.0 words value_type) × (is_over (told_by before.now structs.now id.0 words value_type) ≡ false))
+        (λ w. (w ≡ told_by before.now structs.now id.0 words value_type)
+        × (is_over (told_by before.now structs.now id.0 words value_type) ≡ false))
         (λ e. (e ≡ TypeTooLarge) × (is_over (told_by before.now structs.now id.0 words value_type) ≡ true)) }
 {
     match value_type {

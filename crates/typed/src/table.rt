@@ -38,7 +38,8 @@ impl Model for TypeTable {
 
     ghost view = { λ t. table_of t.types.keys t.structs.items };
 
-    ghost invariant = { λ t. IsFormed (table_of t.types.keys t.structs.items) × IsCounted (table_of t.types.keys t.structs.items) t.words.items t.structs.items };
+    ghost invariant = { λ t. IsFormed (table_of t.types.keys t.structs.items)
+        × IsCounted (table_of t.types.keys t.structs.items) t.words.items t.structs.items };
 }
 
 /// The types of a program as plain data.
@@ -150,7 +151,8 @@ impl TypeTable {
         ensures number { IfOk result (λ id. number_of self.new value_type ≡ Some id.0) }
         ensures held { IfOk result (λ id. Holds self.new id.0 value_type) }
         ensures within { IfOk result (λ id. id.0 < length self.new.types) }
-        ensures refused { MatchResult result (λ _. refusal self.old value_type ≡ None) (λ e. (e ≡ OutOfMemory) ⊎ (refusal self.old value_type ≡ Some e)) }
+        ensures refused { MatchResult result (λ _. refusal self.old value_type ≡ None)
+            (λ e. (e ≡ OutOfMemory) ⊎ (refusal self.old value_type ≡ Some e)) }
         ensures unchanged { OnErr result (self.new ≡ self.old) }
         ensures kept { KeepsTrees self.old self.new }
         ensures formed { IsFormed self.new }
@@ -176,7 +178,8 @@ impl TypeTable {
         requires untold { fields_of self.old id.0 ≡ None }
         requires fields { All (HasWords self.old) fields.items }
         ensures told { OnOk result (self.new ≡ with_fields self.old id.0 fields.items) }
-        ensures refused { MatchResult result (λ _. struct_refusal self.old id.0 fields.items ≡ None) (λ e. (e ≡ OutOfMemory) ⊎ (struct_refusal self.old id.0 fields.items ≡ Some e)) }
+        ensures refused { MatchResult result (λ _. struct_refusal self.old id.0 fields.items ≡ None)
+            (λ e. (e ≡ OutOfMemory) ⊎ (struct_refusal self.old id.0 fields.items ≡ Some e)) }
         ensures unchanged { OnErr result (self.new ≡ self.old) }
         ensures kept { KeepsTrees self.old self.new }
         ensures formed { IsFormed self.new }
@@ -208,7 +211,8 @@ impl TypeTable {
         ensures { MatchResult result
             (λ all. (all.items ≡ map (words_of (with_fields self.now id.0 told.now.fields.items)) self.now.types)
             × (list_any (is_too_large (with_fields self.now id.0 told.now.fields.items)) self.now.types ≡ false))
-            (λ e. (e ≡ OutOfMemory) ⊎ ((e ≡ TypeTooLarge) × (list_any (is_too_large (with_fields self.now id.0 told.now.fields.items)) self.now.types ≡ true))) }
+            (λ e. (e ≡ OutOfMemory) ⊎ ((e ≡ TypeTooLarge)
+            × (list_any (is_too_large (with_fields self.now id.0 told.now.fields.items)) self.now.types ≡ true))) }
     {
         let mut all = Vec::with_capacity(self.alloc, self.types.len())?;
         for value_type in self.types.as_slice() {
@@ -245,7 +249,8 @@ impl TypeTable {
         ensures structs { IfOk result (λ p. map (λ s. s.items) p.structs.items ≡ map (λ s. unwrap_or s []) self.structs) }
 
         // Where each struct is told, they say as much as the table.
-        ensures finished { All IsSome self.structs → IfOk result (λ p. finished p.types.items (map (λ s. s.items) p.structs.items) ≡ self) }
+        ensures finished { All IsSome self.structs
+            → IfOk result (λ p. finished p.types.items (map (λ s. s.items) p.structs.items) ≡ self) }
     {
         let types = Vec::from_slice(self.alloc, self.types.as_slice())?;
         let mut structs = Vec::with_capacity(self.alloc, self.structs.len())?;

@@ -55,7 +55,8 @@ pub fn kept_structs(
     words: &[Option<u32>],
 ) -> Result<Vec<Option<Told>>, NoMemory>
     ensures fields { IfOk result (λ all. map fields_in all.items ≡ lists_of fields.items) }
-    ensures words { IfOk result (λ all. (s : ℕ) (t : ToldData) → slice_get all.items s ≡ Some (Some t) → t.words ≡ known words.now s) }
+    ensures words { IfOk result (λ all. (s : ℕ) (t : ToldData) → slice_get all.items s ≡ Some (Some t)
+        → t.words ≡ known words.now s) }
 {
     let mut structs = Vec::with_capacity(alloc, fields.len())?;
     for list in fields {

@@ -32,7 +32,8 @@ fn with_statements(
     statements: Option<Vec<typed::Stmt>>,
     more: Option<Vec<typed::Stmt>>,
 ) -> Result<Option<Vec<typed::Stmt>>, NoMemory>
-    ensures { IfOk result (λ r. option_map (λ v. v.items) r ≡ with_more (option_map (λ v. v.items) statements) (option_map (λ v. v.items) more)) }
+    ensures { IfOk result (λ r. option_map (λ v. v.items) r
+        ≡ with_more (option_map (λ v. v.items) statements) (option_map (λ v. v.items) more)) }
 {
     match (statements, more) {
         (Some(mut statements), Some(mut more)) => {
@@ -148,7 +149,9 @@ fn choice_of(
     body: Option<Vec<typed::Stmt>>,
     rest: Option<Vec<typed::Stmt>>,
 ) -> Result<Option<typed::Stmt>, NoMemory>
-    ensures { IfOk result (λ r. option_map st_of r ≡ choice_of (option_map choice_view choice) (option_map (λ v. sts_of v.items) body) (option_map (λ v. sts_of v.items) rest)) }
+    ensures { IfOk result (λ r. option_map st_of r
+        ≡ choice_of (option_map choice_view choice) (option_map (λ v. sts_of v.items) body)
+        (option_map (λ v. sts_of v.items) rest)) }
 {
     match (choice, body, rest) {
         (Some(choice), Some(body), Some(rest)) => Ok(Some(chosen(alloc, choice, body, rest)?)),
@@ -166,7 +169,8 @@ fn loop_of(
     head: Option<Head>,
     body: Option<Vec<typed::Stmt>>,
 ) -> Result<Option<typed::Stmt>, NoMemory>
-    ensures { IfOk result (λ r. option_map st_of r ≡ loop_of (option_map head_view head) (option_map (λ v. sts_of v.items) body)) }
+    ensures { IfOk result (λ r. option_map st_of r
+        ≡ loop_of (option_map head_view head) (option_map (λ v. sts_of v.items) body)) }
 {
     match (head, body) {
         (Some(head), Some(body)) => Ok(Some(for_of(alloc, head, body)?)),
@@ -180,7 +184,9 @@ fn loop_of(
 
 /// An `if` of what its parts are.
 fn choice(alloc: Global, head: Guarded, body: Lines, rest: Lines) -> Result<Lines, NoMemory>
-    ensures statements { IfOk result (λ c. option_map (λ v. sts_of v.items) c.statements ≡ option_map alone (choice_of (option_map choice_view head.choice) (option_map (λ v. sts_of v.items) body.statements) (option_map (λ v. sts_of v.items) rest.statements))) }
+    ensures statements { IfOk result (λ c. option_map (λ v. sts_of v.items) c.statements
+        ≡ option_map alone (choice_of (option_map choice_view head.choice) (option_map (λ v. sts_of v.items) body.statements)
+        (option_map (λ v. sts_of v.items) rest.statements))) }
     ensures fault { IfOk result (λ c. c.fault ≡ lesser (lesser head.fault body.fault) rest.fault) }
 {
     let fault = lesser(lesser(head.fault, body.fault), rest.fault);
@@ -191,7 +197,8 @@ fn choice(alloc: Global, head: Guarded, body: Lines, rest: Lines) -> Result<Line
 
 /// A loop of what its parts are.
 fn for_clause(alloc: Global, head: Headed, body: Lines) -> Result<Lines, NoMemory>
-    ensures statements { IfOk result (λ c. option_map (λ v. sts_of v.items) c.statements ≡ option_map alone (loop_of (option_map head_view head.head) (option_map (λ v. sts_of v.items) body.statements))) }
+    ensures statements { IfOk result (λ c. option_map (λ v. sts_of v.items) c.statements
+        ≡ option_map alone (loop_of (option_map head_view head.head) (option_map (λ v. sts_of v.items) body.statements))) }
     ensures fault { IfOk result (λ c. c.fault ≡ lesser head.fault body.fault) }
 {
     let fault = lesser(head.fault, body.fault);
@@ -212,7 +219,8 @@ fn block_of(statements: Option<Vec<typed::Stmt>>) -> Option<typed::Stmt>
 
 /// A block as a statement.
 fn as_block(alloc: Global, body: Lines) -> Result<Lines, NoMemory>
-    ensures statements { IfOk result (λ c. option_map (λ v. sts_of v.items) c.statements ≡ option_map (λ b. alone (block b)) (option_map (λ v. sts_of v.items) body.statements)) }
+    ensures statements { IfOk result (λ c. option_map (λ v. sts_of v.items) c.statements
+        ≡ option_map (λ b. alone (block b)) (option_map (λ v. sts_of v.items) body.statements)) }
     ensures fault { IfOk result (λ c. c.fault ≡ body.fault) }
 {
     let Lines { statements, fault } = body;
@@ -222,7 +230,8 @@ fn as_block(alloc: Global, body: Lines) -> Result<Lines, NoMemory>
 
 /// A statement by itself.
 fn line(alloc: Global, line: Line) -> Result<Lines, NoMemory>
-    ensures statements { IfOk result (λ c. option_map (λ v. sts_of v.items) c.statements ≡ option_map alone (option_map st_of line.statement)) }
+    ensures statements { IfOk result (λ c. option_map (λ v. sts_of v.items) c.statements
+        ≡ option_map alone (option_map st_of line.statement)) }
     ensures fault { IfOk result (λ c. c.fault ≡ line.fault) }
 {
     let Line { statement, fault } = line;
@@ -237,7 +246,8 @@ fn check_jump(
     pos: Pos,
     statement: typed::Stmt,
 ) -> Result<Lines, NoMemory>
-    ensures statements { IfOk result (λ c. option_map (λ v. sts_of v.items) c.statements ≡ allowed looped (Some (alone (st_of statement)))) }
+    ensures statements { IfOk result (λ c. option_map (λ v. sts_of v.items) c.statements
+        ≡ allowed looped (Some (alone (st_of statement)))) }
     ensures fault { IfOk result (λ c. c.fault ≡ fault_where (not looped) (fault_at Outside pos)) }
 {
     let own = Fault {
@@ -269,8 +279,10 @@ fn check_stmt(
     s: &Stmt,
 ) -> Result<Lines, NoMemory>
     requires { 0 < length scope.old.names }
-    ensures statements { IfOk result (λ c. option_map (λ v. sts_of v.items) c.statements ≡ statement text.now (returns_view returns.now) looped (scope_of scope.old) (stm_of s.now)) }
-    ensures fault { IfOk result (λ c. IsLeast (FailsInStatement text.now (returns_view returns.now) looped (scope_of scope.old) (stm_of s.now)) c.fault) }
+    ensures statements { IfOk result (λ c. option_map (λ v. sts_of v.items) c.statements
+        ≡ statement text.now (returns_view returns.now) looped (scope_of scope.old) (stm_of s.now)) }
+    ensures fault { IfOk result (λ c. IsLeast
+        (FailsInStatement text.now (returns_view returns.now) looped (scope_of scope.old) (stm_of s.now)) c.fault) }
     ensures scope { OnOk result (scope_of scope.new ≡ behind text.now (scope_of scope.old) (stm_of s.now)) }
 {
     match s {
@@ -320,8 +332,10 @@ fn check_else(
     e: &Else,
 ) -> Result<Lines, NoMemory>
     requires { 0 < length scope.old.names }
-    ensures statements { IfOk result (λ c. option_map (λ v. sts_of v.items) c.statements ≡ alternative text.now (returns_view returns.now) looped (scope_of scope.old) (els_of e.now)) }
-    ensures fault { IfOk result (λ c. IsLeast (FailsInElse text.now (returns_view returns.now) looped (scope_of scope.old) (els_of e.now)) c.fault) }
+    ensures statements { IfOk result (λ c. option_map (λ v. sts_of v.items) c.statements
+        ≡ alternative text.now (returns_view returns.now) looped (scope_of scope.old) (els_of e.now)) }
+    ensures fault { IfOk result (λ c. IsLeast
+        (FailsInElse text.now (returns_view returns.now) looped (scope_of scope.old) (els_of e.now)) c.fault) }
     ensures scope { OnOk result (scope_of scope.new ≡ behind_else text.now (scope_of scope.old) (els_of e.now)) }
 {
     match e {
@@ -352,9 +366,12 @@ fn check_inner(
     ms: &[Stmt],
 ) -> Result<Lines, NoMemory>
     requires { 0 < length scope.old.names }
-    ensures statements { IfOk result (λ c. option_map (λ v. sts_of v.items) c.statements ≡ statements text.now (returns_view returns.now) looped (opened (scope_of scope.old)) (stms_of ms.now)) }
-    ensures fault { IfOk result (λ c. IsLeast (FailsInStatements text.now (returns_view returns.now) looped (opened (scope_of scope.old)) (stms_of ms.now)) c.fault) }
-    ensures scope { OnOk result (scope_of scope.new ≡ closed (behind_all text.now (opened (scope_of scope.old)) (stms_of ms.now))) }
+    ensures statements { IfOk result (λ c. option_map (λ v. sts_of v.items) c.statements
+        ≡ statements text.now (returns_view returns.now) looped (opened (scope_of scope.old)) (stms_of ms.now)) }
+    ensures fault { IfOk result (λ c. IsLeast
+        (FailsInStatements text.now (returns_view returns.now) looped (opened (scope_of scope.old)) (stms_of ms.now)) c.fault) }
+    ensures scope { OnOk result (scope_of scope.new
+        ≡ closed (behind_all text.now (opened (scope_of scope.old)) (stms_of ms.now))) }
 {
     scope.open()?;
     let lines = check_stmts(alloc, text, returns, looped, scope, ms)?;
@@ -373,8 +390,10 @@ pub fn check_stmts(
     ms: &[Stmt],
 ) -> Result<Lines, NoMemory>
     requires { 0 < length scope.old.names }
-    ensures statements { IfOk result (λ c. option_map (λ v. sts_of v.items) c.statements ≡ statements text.now (returns_view returns.now) looped (scope_of scope.old) (stms_of ms.now)) }
-    ensures fault { IfOk result (λ c. IsLeast (FailsInStatements text.now (returns_view returns.now) looped (scope_of scope.old) (stms_of ms.now)) c.fault) }
+    ensures statements { IfOk result (λ c. option_map (λ v. sts_of v.items) c.statements
+        ≡ statements text.now (returns_view returns.now) looped (scope_of scope.old) (stms_of ms.now)) }
+    ensures fault { IfOk result (λ c. IsLeast
+        (FailsInStatements text.now (returns_view returns.now) looped (scope_of scope.old) (stms_of ms.now)) c.fault) }
     ensures scope { OnOk result (scope_of scope.new ≡ behind_all text.now (scope_of scope.old) (stms_of ms.now)) }
 {
     let mut statements = Some(Vec::new(alloc));

@@ -78,7 +78,12 @@ fn results_wanted(alloc: Global, slots: &[Slot]) -> Result<Vec<Wanted>, NoMemory
 
 /// What a function with these results gives back.
 fn returns_of(alloc: Global, results: &Params, slots: &[Slot]) -> Result<Returns, NoMemory>
-    ensures { IfOk result (λ r. returns_view r ≡ record { wanted = map (λ slot. wanted_by slot.value_type) slots.now; may_be_bare = (length slots.now == 0) || is_named (parameters_of results.now) }) }
+    ensures { IfOk result (λ r. returns_view r
+        ≡ record {
+          wanted = map (λ slot. wanted_by slot.value_type) slots.now;
+          may_be_bare =
+              (length slots.now == 0) || is_named (parameters_of results.now);
+        }) }
 {
     let wanted = results_wanted(alloc, slots)?;
     Ok(Returns {
@@ -103,10 +108,13 @@ fn check_parts(
     body: &Body,
 ) -> Result<Function, NoMemory>
     requires { 0 < length scope.old.names }
-    ensures func { IfOk result (λ r. option_map (func_of (trees (scope_of heads.now).types)) r.func ≡ parts text.now (scope_of heads.now) (scope_of scope.old) (function_of f.now) (body_of body.now)) }
+    ensures func { IfOk result (λ r. option_map (func_of (trees (scope_of heads.now).types)) r.func
+        ≡ parts text.now (scope_of heads.now) (scope_of scope.old) (function_of f.now) (body_of body.now)) }
     ensures pos { IfOk result (λ r. IsAt f.now.name.pos r.func) }
-    ensures fault { IfOk result (λ r. IsLeast (FailsInParts text.now (scope_of heads.now) (scope_of scope.old) (function_of f.now) (body_of body.now)) r.fault) }
-    ensures scope { OnOk result (scope_of scope.new ≡ behind_body text.now (scope_of heads.now) (scope_of scope.old) (function_of f.now) (Some (body_of body.now))) }
+    ensures fault { IfOk result (λ r. IsLeast
+        (FailsInParts text.now (scope_of heads.now) (scope_of scope.old) (function_of f.now) (body_of body.now)) r.fault) }
+    ensures scope { OnOk result (scope_of scope.new
+        ≡ behind_body text.now (scope_of heads.now) (scope_of scope.old) (function_of f.now) (Some (body_of body.now))) }
 {
     let first = scope.site_count();
     let param_slots = slots_of(alloc, text, heads, &f.params)?;
@@ -134,7 +142,8 @@ fn check_parts(
 }
 
 fn func_where(head: bool, types: bool, end: bool, func: Option<typed::Func>) -> Option<typed::Func>
-    ensures func { (all : List TypeTree) → option_map (func_of all) result ≡ allowed head (allowed types (allowed end (option_map (func_of all) func))) }
+    ensures func { (all : List TypeTree) → option_map (func_of all) result
+        ≡ allowed head (allowed types (allowed end (option_map (func_of all) func))) }
     ensures pos { (p : Place) → IsAt p func → IsAt p result }
 {
     if head && types && end { func } else { None }
@@ -151,10 +160,14 @@ fn check_with_body(
     body: &Body,
 ) -> Result<Function, NoMemory>
     requires { 0 < length scope.old.names }
-    ensures func { IfOk result (λ r. option_map (func_of (trees (scope_of heads.now).types)) r.func ≡ function_with text.now (scope_of heads.now) (scope_of scope.old) number (function_of f.now) (Some (body_of body.now))) }
+    ensures func { IfOk result (λ r. option_map (func_of (trees (scope_of heads.now).types)) r.func
+        ≡ function_with text.now (scope_of heads.now) (scope_of scope.old) number (function_of f.now) (Some (body_of body.now))) }
     ensures pos { IfOk result (λ r. IsAt f.now.name.pos r.func) }
-    ensures fault { IfOk result (λ r. IsLeast (FailsWith text.now (scope_of heads.now) (scope_of scope.old) number (function_of f.now) (Some (body_of body.now))) r.fault) }
-    ensures scope { OnOk result (scope_of scope.new ≡ behind_body text.now (scope_of heads.now) (scope_of scope.old) (function_of f.now) (Some (body_of body.now))) }
+    ensures fault { IfOk result (λ r. IsLeast
+        (FailsWith text.now (scope_of heads.now) (scope_of scope.old) number (function_of f.now)
+        (Some (body_of body.now))) r.fault) }
+    ensures scope { OnOk result (scope_of scope.new
+        ≡ behind_body text.now (scope_of heads.now) (scope_of scope.old) (function_of f.now) (Some (body_of body.now))) }
 {
     let head = check_head(text, scope, number, f);
     let words = check_words(alloc, text, heads, f)?;
@@ -183,7 +196,8 @@ fn check_external(
 ) -> Result<Function, NoMemory>
     ensures func { IfOk result (λ r. (all : List TypeTree) → option_map (func_of all) r.func ≡ None) }
     ensures pos { IfOk result (λ r. (p : Place) → IsAt p r.func) }
-    ensures fault { IfOk result (λ r. IsLeast (FailsWith text.now (scope_of heads.now) (scope_of scope.now) number (function_of f.now) None) r.fault) }
+    ensures fault { IfOk result (λ r. IsLeast
+        (FailsWith text.now (scope_of heads.now) (scope_of scope.now) number (function_of f.now) None) r.fault) }
 {
     let head = check_head(text, scope, number, f);
     let words = check_words(alloc, text, heads, f)?;
@@ -204,10 +218,13 @@ fn check_function(
     f: &Func,
 ) -> Result<Function, NoMemory>
     requires { 0 < length scope.old.names }
-    ensures func { IfOk result (λ r. option_map (func_of (trees (scope_of heads.now).types)) r.func ≡ function text.now (scope_of heads.now) (scope_of scope.old) number (function_of f.now)) }
+    ensures func { IfOk result (λ r. option_map (func_of (trees (scope_of heads.now).types)) r.func
+        ≡ function text.now (scope_of heads.now) (scope_of scope.old) number (function_of f.now)) }
     ensures pos { IfOk result (λ r. IsAt f.now.name.pos r.func) }
-    ensures fault { IfOk result (λ r. IsLeast (FailsInFunction text.now (scope_of heads.now) (scope_of scope.old) number (function_of f.now)) r.fault) }
-    ensures scope { OnOk result (scope_of scope.new ≡ behind_function text.now (scope_of heads.now) (scope_of scope.old) (function_of f.now)) }
+    ensures fault { IfOk result (λ r. IsLeast
+        (FailsInFunction text.now (scope_of heads.now) (scope_of scope.old) number (function_of f.now)) r.fault) }
+    ensures scope { OnOk result (scope_of scope.new
+        ≡ behind_function text.now (scope_of heads.now) (scope_of scope.old) (function_of f.now)) }
 {
     match &f.body {
         Some(body) => check_with_body(alloc, text, heads, scope, number, f, body),
@@ -298,8 +315,14 @@ fn check_named(
     number: ValueId,
     item: &Item,
 ) -> Result<PackageVariable, NoMemory>
-    ensures scope { OnOk result (scope_of scope.new ≡ with_site (scope_of scope.old) (type_or_int (known (scope_of scope.old) number.0)) item.now.name.pos) }
-    ensures global { IfOk result (λ g. global_view g ≡ (length (scope_of scope.old).sites, begins (type_or_int (known (scope_of scope.old) number.0)) (initial text.now (scope_of scope.old) (item_of item.now).value))) }
+    ensures scope { OnOk result (scope_of scope.new
+        ≡ with_site (scope_of scope.old) (type_or_int (known (scope_of scope.old) number.0)) item.now.name.pos) }
+    ensures global { IfOk result (λ g. global_view g
+        ≡ (
+          length (scope_of scope.old).sites,
+          begins (type_or_int (known (scope_of scope.old) number.0))
+              (initial text.now (scope_of scope.old) (item_of item.now).value),
+        )) }
 {
     let value_type = type_or_int(scope.known(number));
     let initial = initial(alloc, text, scope, item.value)?;
@@ -321,7 +344,8 @@ fn check_variable(
     item: &Item,
 ) -> Result<(), NoMemory>
     ensures scope { OnOk result (scope_of scope.new ≡ behind_variable text.now (scope_of scope.old) number.0 (item_of item.now)) }
-    ensures globals { OnOk result (map global_view globals.new.items ≡ map global_view globals.old.items ++ globals_of text.now (scope_of scope.old) number.0 (item_of item.now)) }
+    ensures globals { OnOk result (map global_view globals.new.items ≡ map global_view globals.old.items
+        ++ globals_of text.now (scope_of scope.old) number.0 (item_of item.now)) }
 {
     if is_blank(spelled(text, item.name)) {
         return Ok(());
@@ -363,11 +387,16 @@ pub fn check_members(
     members: &[Member],
 ) -> Result<Members, NoMemory>
     requires { 0 < length scope.old.names }
-    ensures funcs { IfOk result (λ r. option_map (λ v. map (func_of (trees (scope_of heads.now).types)) v.items) r.funcs ≡ functions text.now (scope_of heads.now) (scope_of scope.old) 0 (member_views members.now)) }
-    ensures globals { IfOk result (λ r. map global_view r.globals.items ≡ globals text.now (scope_of heads.now) (scope_of scope.old) (member_views members.now)) }
-    ensures places { IfOk result (λ r. AreAt (map (λ f. f.name.pos) (functions_of (member_views members.now))) (option_map (λ v. v.items) r.funcs)) }
-    ensures fault { IfOk result (λ r. IsLeast (MembersFail text.now (scope_of heads.now) (scope_of scope.old) (member_views members.now)) r.fault) }
-    ensures scope { OnOk result (scope_of scope.new ≡ behind_members text.now (scope_of heads.now) (scope_of scope.old) (member_views members.now)) }
+    ensures funcs { IfOk result (λ r. option_map (λ v. map (func_of (trees (scope_of heads.now).types)) v.items) r.funcs
+        ≡ functions text.now (scope_of heads.now) (scope_of scope.old) 0 (member_views members.now)) }
+    ensures globals { IfOk result (λ r. map global_view r.globals.items
+        ≡ globals text.now (scope_of heads.now) (scope_of scope.old) (member_views members.now)) }
+    ensures places { IfOk result (λ r. AreAt (map (λ f. f.name.pos) (functions_of (member_views members.now)))
+        (option_map (λ v. v.items) r.funcs)) }
+    ensures fault { IfOk result (λ r. IsLeast
+        (MembersFail text.now (scope_of heads.now) (scope_of scope.old) (member_views members.now)) r.fault) }
+    ensures scope { OnOk result (scope_of scope.new
+        ≡ behind_members text.now (scope_of heads.now) (scope_of scope.old) (member_views members.now)) }
 {
     let mut funcs = Some(Vec::new(alloc));
     let mut globals = Vec::new(alloc);

@@ -75,7 +75,8 @@ fn check_init(
     scope: &mut Scope,
     init: &Option<Simple>,
 ) -> Result<Init, NoMemory>
-    ensures statement { IfOk result (λ i. option_map (option_map st_of) i.statement ≡ init_statement text.now (scope_of scope.old) (simple_in init.now)) }
+    ensures statement { IfOk result (λ i. option_map (option_map st_of) i.statement
+        ≡ init_statement text.now (scope_of scope.old) (simple_in init.now)) }
     ensures fault { IfOk result (λ i. IsLeast (FailsInInit text.now (scope_of scope.old) (simple_in init.now)) i.fault) }
     ensures scope { OnOk result (scope_of scope.new ≡ header text.now (scope_of scope.old) (simple_in init.now)) }
 {
@@ -116,7 +117,8 @@ pub fn check_guard(
     pos: Pos,
     guard: &Guard,
 ) -> Result<Guarded, NoMemory>
-    ensures choice { IfOk result (λ g. option_map choice_view g.choice ≡ guard_head text.now (scope_of scope.old) (guard_of guard.now)) }
+    ensures choice { IfOk result (λ g. option_map choice_view g.choice
+        ≡ guard_head text.now (scope_of scope.old) (guard_of guard.now)) }
     ensures fault { IfOk result (λ g. IsLeast (FailsInGuard text.now (scope_of scope.old) pos (guard_of guard.now)) g.fault) }
     ensures scope { OnOk result (scope_of scope.new ≡ header text.now (scope_of scope.old) (simple_in guard.now.init)) }
 {
@@ -138,7 +140,8 @@ fn check_post_simple(
     scope: &mut Scope,
     simple: &Simple,
 ) -> Result<Line, NoMemory>
-    ensures statement { IfOk result (λ c. option_map st_of c.statement ≡ post_simple text.now (scope_of scope.old) (simple_of simple.now)) }
+    ensures statement { IfOk result (λ c. option_map st_of c.statement
+        ≡ post_simple text.now (scope_of scope.old) (simple_of simple.now)) }
     ensures fault { IfOk result (λ c. IsLeast (PostFails text.now (scope_of scope.old) (simple_of simple.now)) c.fault) }
     ensures scope { OnOk result (scope_of scope.new ≡ behind_post_simple text.now (scope_of scope.old) (simple_of simple.now)) }
 {
@@ -171,7 +174,8 @@ fn check_post(
     scope: &mut Scope,
     post: &Option<Simple>,
 ) -> Result<Post, NoMemory>
-    ensures statements { IfOk result (λ p. option_map (λ v. sts_of v.items) p.statements ≡ post_statement text.now (scope_of scope.old) (simple_in post.now)) }
+    ensures statements { IfOk result (λ p. option_map (λ v. sts_of v.items) p.statements
+        ≡ post_statement text.now (scope_of scope.old) (simple_in post.now)) }
     ensures fault { IfOk result (λ p. IsLeast (FailsInPost text.now (scope_of scope.old) (simple_in post.now)) p.fault) }
     ensures scope { OnOk result (scope_of scope.new ≡ behind_post text.now (scope_of scope.old) (simple_in post.now)) }
 {
@@ -196,7 +200,8 @@ fn loop_head(
     test: Option<Option<typed::Expr>>,
     post: Option<Vec<typed::Stmt>>,
 ) -> Option<Head>
-    ensures { option_map head_view result ≡ loop_head (option_map (option_map st_of) init) (option_map test_of test) (option_map (λ v. sts_of v.items) post) }
+    ensures { option_map head_view result ≡ loop_head (option_map (option_map st_of) init) (option_map test_of test)
+        (option_map (λ v. sts_of v.items) post) }
 {
     match (init, test, post) {
         (Some(init), Some(test), Some(post)) => Some(Head::ForClause(init, test, post)),
@@ -219,9 +224,17 @@ fn check_counting(
     init: &Option<Simple>,
     post: &Option<Simple>,
 ) -> Result<Headed, NoMemory>
-    ensures head { IfOk result (λ h. option_map head_view h.head ≡ loop_head (init_statement text.now (scope_of scope.old) (simple_in init.now)) (test text.now (header text.now (scope_of scope.old) (simple_in init.now)) (condition_in (clause_of clause.now))) (post_statement text.now (header text.now (scope_of scope.old) (simple_in init.now)) (simple_in post.now))) }
-    ensures fault { IfOk result (λ h. IsLeast (λ f. (FailsInInit text.now (scope_of scope.old) (simple_in init.now) f ⊎ FailsInTest text.now (header text.now (scope_of scope.old) (simple_in init.now)) pos (condition_in (clause_of clause.now)) f) ⊎ FailsInPost text.now (header text.now (scope_of scope.old) (simple_in init.now)) (simple_in post.now) f) h.fault) }
-    ensures scope { OnOk result (scope_of scope.new ≡ behind_post text.now (header text.now (scope_of scope.old) (simple_in init.now)) (simple_in post.now)) }
+    ensures head { IfOk result (λ h. option_map head_view h.head
+        ≡ loop_head (init_statement text.now (scope_of scope.old) (simple_in init.now))
+        (test text.now (header text.now (scope_of scope.old) (simple_in init.now)) (condition_in (clause_of clause.now)))
+        (post_statement text.now (header text.now (scope_of scope.old) (simple_in init.now)) (simple_in post.now))) }
+    ensures fault { IfOk result (λ h. IsLeast
+        (λ f. (FailsInInit text.now (scope_of scope.old) (simple_in init.now) f
+        ⊎ FailsInTest text.now (header text.now (scope_of scope.old) (simple_in init.now)) pos
+        (condition_in (clause_of clause.now)) f)
+        ⊎ FailsInPost text.now (header text.now (scope_of scope.old) (simple_in init.now)) (simple_in post.now) f) h.fault) }
+    ensures scope { OnOk result (scope_of scope.new
+        ≡ behind_post text.now (header text.now (scope_of scope.old) (simple_in init.now)) (simple_in post.now)) }
 {
     let init = check_init(alloc, text, scope, init)?;
     let Ok(test) = check_test(alloc, text, scope, pos, clause) else {
@@ -247,8 +260,10 @@ fn check_while(
     pos: Pos,
     e: &Expr,
 ) -> Result<Headed, NoMemory>
-    ensures head { IfOk result (λ h. option_map head_view h.head ≡ clause_head text.now (scope_of scope.old) (while_true (tree_of e.now))) }
-    ensures fault { IfOk result (λ h. IsLeast (FailsInClause text.now (scope_of scope.old) pos (while_true (tree_of e.now))) h.fault) }
+    ensures head { IfOk result (λ h. option_map head_view h.head
+        ≡ clause_head text.now (scope_of scope.old) (while_true (tree_of e.now))) }
+    ensures fault { IfOk result (λ h. IsLeast
+        (FailsInClause text.now (scope_of scope.old) pos (while_true (tree_of e.now))) h.fault) }
     ensures scope { OnOk result (scope_of scope.new ≡ opened (scope_of scope.old)) }
 {
     scope.open()?;
@@ -269,9 +284,12 @@ fn check_ranging(
     range_pos: Pos,
     e: &Expr,
 ) -> Result<Headed, NoMemory>
-    ensures head { IfOk result (λ h. option_map head_view h.head ≡ option_map range_clause (range_in text.now (scope_of scope.old) (targets_of targets.now) (tree_of e.now))) }
-    ensures fault { IfOk result (λ h. IsLeast (FailsInRange text.now (scope_of scope.old) pos (targets_of targets.now) (tree_of e.now)) h.fault) }
-    ensures scope { OnOk result (scope_of scope.new ≡ behind_range text.now (scope_of scope.old) (targets_of targets.now) range_pos (tree_of e.now)) }
+    ensures head { IfOk result (λ h. option_map head_view h.head
+        ≡ option_map range_clause (range_in text.now (scope_of scope.old) (targets_of targets.now) (tree_of e.now))) }
+    ensures fault { IfOk result (λ h. IsLeast
+        (FailsInRange text.now (scope_of scope.old) pos (targets_of targets.now) (tree_of e.now)) h.fault) }
+    ensures scope { OnOk result (scope_of scope.new
+        ≡ behind_range text.now (scope_of scope.old) (targets_of targets.now) range_pos (tree_of e.now)) }
 {
     let found = check_range(alloc, text, scope, pos, targets, range_pos, e)?;
     Ok(Headed {
@@ -288,7 +306,8 @@ pub fn check_clause(
     pos: Pos,
     clause: &Clause,
 ) -> Result<Headed, NoMemory>
-    ensures head { IfOk result (λ h. option_map head_view h.head ≡ clause_head text.now (scope_of scope.old) (clause_of clause.now)) }
+    ensures head { IfOk result (λ h. option_map head_view h.head
+        ≡ clause_head text.now (scope_of scope.old) (clause_of clause.now)) }
     ensures fault { IfOk result (λ h. IsLeast (FailsInClause text.now (scope_of scope.old) pos (clause_of clause.now)) h.fault) }
     ensures scope { OnOk result (scope_of scope.new ≡ clause_scope text.now (scope_of scope.old) (clause_of clause.now)) }
 {

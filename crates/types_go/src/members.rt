@@ -28,7 +28,8 @@ fn add_variables<'a>(
     items: &[Item<'a>],
     from: usize,
 ) -> Result<(), NoMemory>
-    ensures { OnOk result (member_views members.new.items ≡ member_views members.old.items ++ numbered from (item_views (drop from items.now))) }
+    ensures { OnOk result (member_views members.new.items ≡ member_views members.old.items
+        ++ numbered from (item_views (drop from items.now))) }
 {
     for index in from..items.len() {
         let Ok(number) = u32::try_from(index) else {
@@ -45,8 +46,10 @@ fn add_declared<'a>(
     items: &mut Vec<Item<'a>>,
     decl: &'a Decl,
 ) -> Result<(), NoMemory>
-    ensures members { OnOk result (member_views members.new.items ≡ member_views members.old.items ++ numbered (length (item_views items.old.items)) (items_of_decl (declaration_of decl.now))) }
-    ensures items { OnOk result (item_views items.new.items ≡ item_views items.old.items ++ items_of_decl (declaration_of decl.now)) }
+    ensures members { OnOk result (member_views members.new.items ≡ member_views members.old.items
+        ++ numbered (length (item_views items.old.items)) (items_of_decl (declaration_of decl.now))) }
+    ensures items { OnOk result (item_views items.new.items ≡ item_views items.old.items
+        ++ items_of_decl (declaration_of decl.now)) }
 {
     let from = items.len();
     add_decl(items, decl)?;
@@ -61,7 +64,8 @@ fn add_function<'a>(
     members: &mut Vec<Member<'a>>,
     f: &'a Func,
 ) -> Result<(), NoMemory>
-    ensures { OnOk result (member_views members.new.items ≡ member_views members.old.items ++ (if is_external text.now (scope_of heads.now) (function_of f.now) then [] else of_function (function_of f.now) ∷ [])) }
+    ensures { OnOk result (member_views members.new.items ≡ member_views members.old.items
+        ++ (if is_external text.now (scope_of heads.now) (function_of f.now) then [] else of_function (function_of f.now) ∷ [])) }
 {
     let external = is_external(alloc, text, heads, f)?;
     if external {
@@ -80,8 +84,10 @@ fn add_members<'a>(
     items: &mut Vec<Item<'a>>,
     decl: &'a Decl,
 ) -> Result<(), NoMemory>
-    ensures members { OnOk result (member_views members.new.items ≡ member_views members.old.items ++ members_of_decl text.now (scope_of heads.now) (length (item_views items.old.items)) (declaration_of decl.now)) }
-    ensures items { OnOk result (item_views items.new.items ≡ item_views items.old.items ++ items_of_decl (declaration_of decl.now)) }
+    ensures members { OnOk result (member_views members.new.items ≡ member_views members.old.items
+        ++ members_of_decl text.now (scope_of heads.now) (length (item_views items.old.items)) (declaration_of decl.now)) }
+    ensures items { OnOk result (item_views items.new.items ≡ item_views items.old.items
+        ++ items_of_decl (declaration_of decl.now)) }
 {
     match decl {
         Decl::Const(_, _) => add_decl(items, decl),

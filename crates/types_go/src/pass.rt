@@ -54,7 +54,8 @@ fn package_names(alloc: Global, text: &[u8], decls: &[Decl]) -> Result<Names, No
     ensures heads { IfOk result
         (λ n. (own_name : NameOf) → IsHeads (syntax_with text.now own_name (declarations_of decls.now)) (scope_of n.heads)) }
     ensures sizes { IfOk result
-        (λ n. (own_name : NameOf) → IsLeast (SizesFail (syntax_with text.now own_name (declarations_of decls.now))) n.sizes_fault) }
+        (λ n. (own_name : NameOf) → IsLeast (SizesFail
+        (syntax_with text.now own_name (declarations_of decls.now))) n.sizes_fault) }
     ensures formed { IfOk result (λ n. IsFormed (scope_of n.heads).types) }
 {
     let mut heads = constants_scope(alloc, text, decls)?;

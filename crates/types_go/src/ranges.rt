@@ -234,7 +234,8 @@ fn call_in(
     ranged: Option<Ranged>,
     value: &Option<typed::Expr>,
 ) -> Option<Fault>
-    ensures { result ≡ call_in text.now (scope_of scope.now) (tree_of e.now) (option_map ranged_view ranged) (option_map ex_of value.now) }
+    ensures { result ≡ call_in text.now (scope_of scope.now) (tree_of e.now) (option_map ranged_view ranged)
+        (option_map ex_of value.now) }
 {
     match (ranged, value) {
         (Some(ranged), Some(value)) => array_call(text, scope, e, ranged, value),
@@ -252,7 +253,8 @@ fn check_over(
 ) -> Result<Over, NoMemory>
     ensures ranged { IfOk result (λ o. option_map ranged_view o.ranged ≡ ranged text.now (scope_of scope.now) (tree_of e.now)) }
     ensures value { IfOk result (λ o. option_map ex_of o.value ≡ over text.now (scope_of scope.now) (tree_of e.now)) }
-    ensures call { IfOk result (λ o. o.call ≡ call_in text.now (scope_of scope.now) (tree_of e.now) (ranged text.now (scope_of scope.now) (tree_of e.now)) (over text.now (scope_of scope.now) (tree_of e.now))) }
+    ensures call { IfOk result (λ o. o.call ≡ call_in text.now (scope_of scope.now) (tree_of e.now)
+        (ranged text.now (scope_of scope.now) (tree_of e.now)) (over text.now (scope_of scope.now) (tree_of e.now))) }
     ensures fault { IfOk result (λ o. IsLeast (FailsInOver text.now (scope_of scope.now) pos (tree_of e.now)) o.fault) }
 {
     let found = check_single(alloc, text, scope, e)?;
@@ -322,7 +324,8 @@ fn all_accept(given: &Option<Vec<ValueType>>, wanted: &[Wanted]) -> bool
 }
 
 fn lefts_where(is_allowed: bool, lefts: Option<Vec<Left>>) -> Option<Vec<Left>>
-    ensures { option_map (λ v. map left_view v.items) result ≡ allowed is_allowed (option_map (λ v. map left_view v.items) lefts) }
+    ensures { option_map (λ v. map left_view v.items) result
+        ≡ allowed is_allowed (option_map (λ v. map left_view v.items) lefts) }
 {
     if is_allowed { lefts } else { None }
 }
@@ -355,9 +358,14 @@ fn check_assigned(
     es: &[Expr],
     pos: Pos,
 ) -> Result<Keys, NoMemory>
-    ensures lefts { IfOk result (λ k. option_map (λ v. map left_view v.items) k.lefts ≡ target_lefts text.now (scope_of scope.now) (option_map (λ v. v.items) given.now) (targets_assigned (trees_of es.now) pos)) }
-    ensures count { IfOk result (λ k. k.count ≡ target_count text.now (scope_of scope.now) (targets_assigned (trees_of es.now) pos)) }
-    ensures fault { IfOk result (λ k. IsLeast (TargetsFail text.now (scope_of scope.now) (option_map (λ v. v.items) given.now) (targets_assigned (trees_of es.now) pos)) k.fault) }
+    ensures lefts { IfOk result (λ k. option_map (λ v. map left_view v.items) k.lefts
+        ≡ target_lefts text.now (scope_of scope.now) (option_map (λ v. v.items) given.now)
+        (targets_assigned (trees_of es.now) pos)) }
+    ensures count { IfOk result (λ k. k.count
+        ≡ target_count text.now (scope_of scope.now) (targets_assigned (trees_of es.now) pos)) }
+    ensures fault { IfOk result (λ k. IsLeast
+        (TargetsFail text.now (scope_of scope.now) (option_map (λ v. v.items) given.now)
+        (targets_assigned (trees_of es.now) pos)) k.fault) }
 {
     let left = check_lefts(alloc, text, scope, es)?;
     let own = given_faults(given, &left.wanted, es);
@@ -398,10 +406,14 @@ fn check_defined(
     names: &[Name],
     pos: Pos,
 ) -> Result<Keys, NoMemory>
-    ensures lefts { IfOk result (λ k. option_map (λ v. map left_view v.items) k.lefts ≡ target_lefts text.now (scope_of scope.old) (option_map (λ v. v.items) given.now) (targets_defined names.now pos)) }
+    ensures lefts { IfOk result (λ k. option_map (λ v. map left_view v.items) k.lefts
+        ≡ target_lefts text.now (scope_of scope.old) (option_map (λ v. v.items) given.now) (targets_defined names.now pos)) }
     ensures count { IfOk result (λ k. k.count ≡ Some (name_count text.now names.now)) }
-    ensures fault { IfOk result (λ k. IsLeast (TargetsFail text.now (scope_of scope.old) (option_map (λ v. v.items) given.now) (targets_defined names.now pos)) k.fault) }
-    ensures scope { OnOk result (scope_of scope.new ≡ behind_entries text.now (scope_of scope.old) (slots_each (option_map (λ v. v.items) given.now) names.now)) }
+    ensures fault { IfOk result (λ k. IsLeast
+        (TargetsFail text.now (scope_of scope.old) (option_map (λ v. v.items) given.now)
+        (targets_defined names.now pos)) k.fault) }
+    ensures scope { OnOk result (scope_of scope.new
+        ≡ behind_entries text.now (scope_of scope.old) (slots_each (option_map (λ v. v.items) given.now) names.now)) }
 {
     let slots = slots_each(alloc, names, given)?;
     let entries = check_entries(alloc, text, scope, Role::Parameter, &slots)?;
@@ -426,10 +438,14 @@ fn check_targets(
     given: &Option<Vec<ValueType>>,
     targets: &Targets,
 ) -> Result<Keys, NoMemory>
-    ensures lefts { IfOk result (λ k. option_map (λ v. map left_view v.items) k.lefts ≡ target_lefts text.now (scope_of scope.old) (option_map (λ v. v.items) given.now) (targets_of targets.now)) }
+    ensures lefts { IfOk result (λ k. option_map (λ v. map left_view v.items) k.lefts
+        ≡ target_lefts text.now (scope_of scope.old) (option_map (λ v. v.items) given.now) (targets_of targets.now)) }
     ensures count { IfOk result (λ k. k.count ≡ target_count text.now (scope_of scope.old) (targets_of targets.now)) }
-    ensures fault { IfOk result (λ k. IsLeast (TargetsFail text.now (scope_of scope.old) (option_map (λ v. v.items) given.now) (targets_of targets.now)) k.fault) }
-    ensures scope { OnOk result (scope_of scope.new ≡ behind_entries text.now (scope_of scope.old) (target_slots (option_map (λ v. v.items) given.now) (targets_of targets.now))) }
+    ensures fault { IfOk result (λ k. IsLeast
+        (TargetsFail text.now (scope_of scope.old) (option_map (λ v. v.items) given.now) (targets_of targets.now)) k.fault) }
+    ensures scope { OnOk result (scope_of scope.new
+        ≡ behind_entries text.now (scope_of scope.old)
+        (target_slots (option_map (λ v. v.items) given.now) (targets_of targets.now))) }
 {
     match targets {
         Targets::Absent => Ok(Keys {
@@ -500,7 +516,8 @@ fn sides_in(lefts: Option<Vec<Left>>) -> Option<Sides>
 
 /// The numbers below an int, which one left side gets.
 fn range_numbers(value: typed::Expr, sides: Sides) -> Option<Range>
-    ensures { option_map range_view result ≡ option_map (ranging (sides_view sides)) (over_numbers (ex_of value) (left_view sides.value)) }
+    ensures { option_map range_view result ≡ option_map (ranging (sides_view sides))
+        (over_numbers (ex_of value) (left_view sides.value)) }
 {
     let Sides { key, value: second } = sides;
     match second {
@@ -515,7 +532,8 @@ fn range_numbers(value: typed::Expr, sides: Sides) -> Option<Range>
 
 /// An array: with a second left side its elements, and else the indices of one that isn't evaluated.
 fn range_array(site: SiteId, length: u64, value: typed::Expr, sides: Sides) -> Option<Range>
-    ensures { option_map range_view result ≡ option_map (ranging (sides_view sides)) (over_array site.0 length (ex_of value) (left_view sides.value)) }
+    ensures { option_map range_view result ≡ option_map (ranging (sides_view sides))
+        (over_array site.0 length (ex_of value) (left_view sides.value)) }
 {
     let Sides { key, value: second } = sides;
     match second {
@@ -549,7 +567,8 @@ fn range_of(
     value: Option<typed::Expr>,
     lefts: Option<Vec<Left>>,
 ) -> Option<Range>
-    ensures { option_map range_view result ≡ range_of site.0 (option_map ranged_view ranged) (option_map ex_of value) (option_map (λ v. map left_view v.items) lefts) }
+    ensures { option_map range_view result ≡ range_of site.0 (option_map ranged_view ranged) (option_map ex_of value)
+        (option_map (λ v. map left_view v.items) lefts) }
 {
     match (ranged, value, sides_in(lefts)) {
         (Some(ranged), Some(value), Some(sides)) => range_with(site, ranged, value, sides),
@@ -599,11 +618,22 @@ fn check_sides(
     targets: &Targets,
     range_pos: Pos,
 ) -> Result<Keyed, NoMemory>
-    ensures site { IfOk result (λ k. k.site.0 ≡ length (behind_entries text.now (opened (scope_of scope.old)) (target_slots (given_types (option_map ranged_view ranged)) (targets_of targets.now))).sites) }
-    ensures lefts { IfOk result (λ k. option_map (λ v. map left_view v.items) k.keys.lefts ≡ target_lefts text.now (opened (scope_of scope.old)) (given_types (option_map ranged_view ranged)) (targets_of targets.now)) }
-    ensures count { IfOk result (λ k. k.keys.count ≡ target_count text.now (opened (scope_of scope.old)) (targets_of targets.now)) }
-    ensures fault { IfOk result (λ k. IsLeast (TargetsFail text.now (opened (scope_of scope.old)) (given_types (option_map ranged_view ranged)) (targets_of targets.now)) k.keys.fault) }
-    ensures scope { OnOk result (scope_of scope.new ≡ behind_copy (behind_entries text.now (opened (scope_of scope.old)) (target_slots (given_types (option_map ranged_view ranged)) (targets_of targets.now))) (copied (option_map ranged_view ranged) (target_count text.now (opened (scope_of scope.old)) (targets_of targets.now))) range_pos) }
+    ensures site { IfOk result (λ k. k.site.0
+        ≡ length (behind_entries text.now (opened (scope_of scope.old))
+        (target_slots (given_types (option_map ranged_view ranged)) (targets_of targets.now))).sites) }
+    ensures lefts { IfOk result (λ k. option_map (λ v. map left_view v.items) k.keys.lefts
+        ≡ target_lefts text.now (opened (scope_of scope.old)) (given_types (option_map ranged_view ranged))
+        (targets_of targets.now)) }
+    ensures count { IfOk result (λ k. k.keys.count
+        ≡ target_count text.now (opened (scope_of scope.old)) (targets_of targets.now)) }
+    ensures fault { IfOk result (λ k. IsLeast
+        (TargetsFail text.now (opened (scope_of scope.old)) (given_types (option_map ranged_view ranged))
+        (targets_of targets.now)) k.keys.fault) }
+    ensures scope { OnOk result (scope_of scope.new
+        ≡ behind_copy (behind_entries text.now (opened (scope_of scope.old))
+        (target_slots (given_types (option_map ranged_view ranged)) (targets_of targets.now)))
+        (copied (option_map ranged_view ranged)
+        (target_count text.now (opened (scope_of scope.old)) (targets_of targets.now))) range_pos) }
 {
     let given = given_types(alloc, ranged)?;
     scope.open()?;
@@ -629,9 +659,12 @@ pub fn check_range(
     range_pos: Pos,
     e: &Expr,
 ) -> Result<Ranging, NoMemory>
-    ensures range { IfOk result (λ r. option_map range_view r.range ≡ range_in text.now (scope_of scope.old) (targets_of targets.now) (tree_of e.now)) }
-    ensures fault { IfOk result (λ r. IsLeast (FailsInRange text.now (scope_of scope.old) pos (targets_of targets.now) (tree_of e.now)) r.fault) }
-    ensures scope { OnOk result (scope_of scope.new ≡ behind_range text.now (scope_of scope.old) (targets_of targets.now) range_pos (tree_of e.now)) }
+    ensures range { IfOk result (λ r. option_map range_view r.range
+        ≡ range_in text.now (scope_of scope.old) (targets_of targets.now) (tree_of e.now)) }
+    ensures fault { IfOk result (λ r. IsLeast
+        (FailsInRange text.now (scope_of scope.old) pos (targets_of targets.now) (tree_of e.now)) r.fault) }
+    ensures scope { OnOk result (scope_of scope.new
+        ≡ behind_range text.now (scope_of scope.old) (targets_of targets.now) range_pos (tree_of e.now)) }
 {
     let over = check_over(alloc, text, scope, pos, e)?;
     let Ok(sides) = check_sides(alloc, text, scope, over.ranged, targets, range_pos) else {

@@ -8,10 +8,15 @@ use Rattle.typed.specs.declared.program.Func.{Func as FuncData}
 use Rattle.typed.specs.declared.program.Program.{Program as ProgramData}
 use Rattle.type_faults.specs.Least.{IsLeast}
 use Rattle.types_go.specs.FunctionFaults.{FailsWithHeads}
+use Rattle.types_go.specs.declared.pass.Passed.{Passed}
 use Rattle.types_go.proofs.checking.check.Goals as goal
 use Rattle.types_go.proofs.Answering.{typed, one_program, typed_or_fails, formed_of, passed_tree, where_found, main_there, functions_found}
 use Rattle.types_go.proofs.InFormProgram.{in_form}
 use Rattle.types_go.proofs.OneHeads.{least_of_tree}
+
+-- the program of a pass that has these functions, one of which is `main`
+abbrev program_with : Passed → Vec FuncData → FuncId → ProgramData
+program_with q funcs main = record { funcs = funcs; main = main; sites = q.sites; types = q.types; strings = q.strings; globals = q.globals }
 
 pub unreachable-requires : goal.unreachable-requires
 unreachable-requires c =
@@ -44,14 +49,7 @@ returns-in-Some-funcs-clause-typed c =
     let t = syntax_of c.args.tree.now in
     let found = passed_tree c.args.tree.now c.deref.result.now c.deref-2.result.now c.deref.ensures.value c.deref-2.ensures.value _ _ _ _ _ _ _ c.in_ok-main.ensures in
     let q = c.in_ok-main.field-0 in
-    let p : ProgramData = record {
-      funcs = c.in-Some-funcs.funcs;
-      main = c.in-Some-main.main;
-      sites = q.sites;
-      types = q.types;
-      strings = q.strings;
-      globals = q.globals;
-    } in
+    let p = program_with q c.in-Some-funcs.funcs c.in-Some-main.main in
     let all = where_found t p q.main q.funcs q.fault c.in-Some-main.is c.in-Some-funcs.is c.in-None.is found in
     typed t p all
 
@@ -60,14 +58,7 @@ returns-in-Some-funcs-clause-in_form c =
     let t = syntax_of c.args.tree.now in
     let found = passed_tree c.args.tree.now c.deref.result.now c.deref-2.result.now c.deref.ensures.value c.deref-2.ensures.value _ _ _ _ _ _ _ c.in_ok-main.ensures in
     let q = c.in_ok-main.field-0 in
-    let p : ProgramData = record {
-      funcs = c.in-Some-funcs.funcs;
-      main = c.in-Some-main.main;
-      sites = q.sites;
-      types = q.types;
-      strings = q.strings;
-      globals = q.globals;
-    } in
+    let p = program_with q c.in-Some-funcs.funcs c.in-Some-main.main in
     let all = where_found t p q.main q.funcs q.fault c.in-Some-main.is c.in-Some-funcs.is c.in-None.is found in
     let whole = typed t p all in in_form t (program_of p) whole (formed_of t all.heads all.is_heads all.formed (program_of p) whole)
 
@@ -76,14 +67,7 @@ returns-in-Some-funcs-clause-sites c =
     let t = syntax_of c.args.tree.now in
     let found = passed_tree c.args.tree.now c.deref.result.now c.deref-2.result.now c.deref.ensures.value c.deref-2.ensures.value _ _ _ _ _ _ _ c.in_ok-main.ensures in
     let q = c.in_ok-main.field-0 in
-    let p : ProgramData = record {
-      funcs = c.in-Some-funcs.funcs;
-      main = c.in-Some-main.main;
-      sites = q.sites;
-      types = q.types;
-      strings = q.strings;
-      globals = q.globals;
-    } in
+    let p = program_with q c.in-Some-funcs.funcs c.in-Some-main.main in
     let all = where_found t p q.main q.funcs q.fault c.in-Some-main.is c.in-Some-funcs.is c.in-None.is found in
     (all.heads, all.is_heads, all.sites_are)
 
@@ -92,14 +76,7 @@ returns-in-Some-funcs-clause-places c =
     let t = syntax_of c.args.tree.now in
     let found = passed_tree c.args.tree.now c.deref.result.now c.deref-2.result.now c.deref.ensures.value c.deref-2.ensures.value _ _ _ _ _ _ _ c.in_ok-main.ensures in
     let q = c.in_ok-main.field-0 in
-    let p : ProgramData = record {
-      funcs = c.in-Some-funcs.funcs;
-      main = c.in-Some-main.main;
-      sites = q.sites;
-      types = q.types;
-      strings = q.strings;
-      globals = q.globals;
-    } in
+    let p = program_with q c.in-Some-funcs.funcs c.in-Some-main.main in
     let all = where_found t p q.main q.funcs q.fault c.in-Some-main.is c.in-Some-funcs.is c.in-None.is found in
     (all.heads, all.is_heads, all.places_are)
 
@@ -108,14 +85,7 @@ returns-in-Some-funcs-clause-none_fails c =
     let t = syntax_of c.args.tree.now in
     let found = passed_tree c.args.tree.now c.deref.result.now c.deref-2.result.now c.deref.ensures.value c.deref-2.ensures.value _ _ _ _ _ _ _ c.in_ok-main.ensures in
     let q = c.in_ok-main.field-0 in
-    let p : ProgramData = record {
-      funcs = c.in-Some-funcs.funcs;
-      main = c.in-Some-main.main;
-      sites = q.sites;
-      types = q.types;
-      strings = q.strings;
-      globals = q.globals;
-    } in
+    let p = program_with q c.in-Some-funcs.funcs c.in-Some-main.main in
     let all = where_found t p q.main q.funcs q.fault c.in-Some-main.is c.in-Some-funcs.is c.in-None.is found in
     least_of_tree t all.heads None all.is_heads all.least
 
@@ -124,13 +94,6 @@ returns-in-Some-funcs-clause-only c =
     let t = syntax_of c.args.tree.now in
     let found = passed_tree c.args.tree.now c.deref.result.now c.deref-2.result.now c.deref.ensures.value c.deref-2.ensures.value _ _ _ _ _ _ _ c.in_ok-main.ensures in
     let q = c.in_ok-main.field-0 in
-    let p : ProgramData = record {
-      funcs = c.in-Some-funcs.funcs;
-      main = c.in-Some-main.main;
-      sites = q.sites;
-      types = q.types;
-      strings = q.strings;
-      globals = q.globals;
-    } in
+    let p = program_with q c.in-Some-funcs.funcs c.in-Some-main.main in
     let all = where_found t p q.main q.funcs q.fault c.in-Some-main.is c.in-Some-funcs.is c.in-None.is found in
     λ r a. one_program t (program_of p) r (typed t p all) a
