@@ -431,7 +431,7 @@ class Program:
         if it.constant is not None:
             self.use_again(before)
             return self.number(number)
-        if self.still and self.chance(0.6):
+        if self.still and not self.safe and self.chance(0.6):
             return it.text
         if roll < 0.96 or self.safe:
             mask = max(2**bits - 1 for bits in range(4) if 2**bits <= length)
@@ -834,6 +834,8 @@ class Program:
         if found:
             return Value(found[0], 9)
         called = roll > 0.7 and (self.call([kind], 1) or self.field_of_call(kind, 1))
+        # Go's compiler works out what has a literal in it even where the language says that it isn't worked out.
+        self.safe = self.safe or self.still
         return called or self.in_header(kind, 2)
 
     def new_sides(self, element, both):
