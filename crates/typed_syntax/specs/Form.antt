@@ -6,8 +6,8 @@ use Rattle.typed_syntax.specs.declared.operators.BinOp.TheVariants.{Add, Sub, Eq
 use Rattle.typed_syntax.specs.declared.operators.UnOp.{UnOp}
 use Rattle.typed_syntax.specs.declared.operators.UnOp.TheVariants.{Not}
 use Rattle.typed_syntax.specs.Types.{TypeTree, ints, bools, array_of, width, part_count, part_type}
-use Rattle.typed_syntax.specs.Value.{Value, int, bool, composite, IsOf, FitsWords}
-use Rattle.typed_syntax.specs.Syntax.{Ex, Exs, Pl, Left, Piece, Over, St, Sts, Func, Program, constant, read, unary, binary, logical_and, logical_or, call, part_of, literal, Elements, no_elements, element, local, global, none, more, results, read_int, blank, new, to, text, shown, over_int, over_length, over_copy, declare, assign, update, bump, discard, block, if_stmt, for_stmt, range, break_stmt, continue_stmt, return_stmt, print, panic, exit, done, next, Steps, here, inner, at_index, argument_words, result_words, type_named, site_type, global_type}
+use Rattle.typed_syntax.specs.Value.{Value, int, bool, IsOf, FitsWords, LeadsNowhere}
+use Rattle.typed_syntax.specs.Syntax.{Ex, Exs, Pl, Left, Piece, Over, St, Sts, Func, Program, constant, read, unary, binary, logical_and, logical_or, call, part_of, literal, Elements, no_elements, element, local, global, none, more, results, read_int, blank, new, to, text, shown, over_int, over_length, over_copy, over_slice, over_pointer, over_pointed, declare, assign, update, bump, discard, block, if_stmt, for_stmt, range, break_stmt, continue_stmt, return_stmt, print, panic, exit, done, next, Steps, here, inner, at_index, argument_words, result_words, type_named, site_type, global_type}
 
 -- ---- types
 
@@ -24,7 +24,7 @@ IsPlain t = (t ≡ ints) ⊎ (t ≡ bools)
 abbrev pub IsWord : Value → Type 0
 IsWord (int z) = FitsSigned w64 z
 IsWord (bool b) = ⊤
-IsWord (composite vs) = ⊥
+IsWord v = ⊥
 
 -- an operator on two numbers that gives one
 abbrev pub IsArithmetic : BinOp → Type 0
@@ -80,6 +80,9 @@ abbrev pub over_sites : Over → (others : ℕ) → ℕ
 over_sites (over_int e) others = others
 over_sites (over_length x) others = others
 over_sites (over_copy site e x) others = suc others
+over_sites (over_slice e t) others = others
+over_sites (over_pointer at e x t) others = others
+over_sites (over_pointed x) others = others
 
 -- how many sites statements have
 abbrev mutual
@@ -163,6 +166,8 @@ module _ (p : Program) where
     pub PlFits : List ℕ → TypeTree → Pl → Type 0
     PlFits scope t (local site steps) = InScope site scope × StepsLead scope (site_type p site) steps t × (0 < width t)
     PlFits scope t (global g steps) = (g < length p.globals) × StepsLead scope (global_type p g) steps t × (0 < width t)
+    -- places that are reached through pointers and slices have no code yet
+    PlFits scope t q = ⊥
 
     -- steps lead from values of a type to parts of a type
     pub StepsLead : List ℕ → TypeTree → Steps → TypeTree → Type 0
@@ -181,6 +186,8 @@ module _ (p : Program) where
     ExFits scope t (call f es) = (func : Func) × (slice_get p.funcs f ≡ Some func) × (func.results ≡ t ∷ []) × ExsFit scope func.param_types es
     ExFits scope t (part_of n i e) = (i < part_count (type_named p n)) × (part_type (type_named p n) i ≡ t) × (0 < width t) × ExFits scope (type_named p n) e
     ExFits scope t (literal n es) = (type_named p n ≡ t) × (0 < width t) × ElementsFit scope t es
+    -- what makes or follows pointers and slices has no code yet
+    ExFits scope t e = ⊥
 
     -- elements of a struct or an array of a type; each has a word at least
     pub ElementsFit : List ℕ → TypeTree → Elements → Type 0
@@ -294,9 +301,10 @@ pub record FuncFits (p : Program) (f : Func) : Type 0 where
   -- arguments and results have at most 65,535 words
   pub small : argument_words f + result_words f ≤ 65535
 
--- package variables: each begins with a value of its type, and its site is none of a function
+-- package variables: each begins with a value of its type that leads to no variable, and its site is none of a function
 pub record GlobalFits (p : Program) (g : ℕ × Value) : Type 0 where
   pub value : IsOf (site_type p g.0) g.1 × FitsWords g.1
+  pub alone : LeadsNowhere g.1
   pub apart : (f : ℕ) (func : Func) → slice_get p.funcs f ≡ Some func → (g.0 < func.first) ⊎ (func.first + func.count ≤ g.0)
 
 -- each function fits; `main` is one without parameters and results; there are at most 4,096; each variable has a word at

@@ -1,7 +1,7 @@
 -- The parts of values by paths. A path is a list of steps, each the number of a field or an index.
 use Rattle.std.specs.Prelude.{◌≡◌, ◌≢◌, ◌⊎◌, ℕ, zero, suc, ◌+◌, ◌<◌, pos, List, [], ◌∷◌}
 use Rattle.typed_syntax.specs.Types.{TypeTree, part_count, part_type, part_offset}
-use Rattle.typed_syntax.specs.Value.{Value, Values, int, bool, composite, no_values, more_values}
+use Rattle.typed_syntax.specs.Value.{Value, Values, int, bool, composite, nil_pointer, pointer, nil_slice, slice_in, no_values, more_values}
 
 -- in the place of what is not there
 abbrev pub no_value : Value
@@ -18,16 +18,24 @@ with_nth no_values i x = no_values
 with_nth (more_values v vs) zero x = more_values x vs
 with_nth (more_values v vs) (suc i) x = more_values v (with_nth vs i x)
 
--- a part of a value, and the value with another one in its place; whole numbers and truth values have no parts
+-- a part of a value, and the value with another one in its place; what a pointer or a slice leads to is no part of it
 abbrev pub part : Value → ℕ → Value
 part (int z) i = no_value
 part (bool b) i = no_value
 part (composite vs) i = nth_value vs i
+part nil_pointer i = no_value
+part (pointer x path) i = no_value
+part nil_slice i = no_value
+part (slice_in x path first count room) i = no_value
 
 abbrev pub with_part : Value → ℕ → Value → Value
 with_part (int z) i x = int z
 with_part (bool b) i x = bool b
 with_part (composite vs) i x = composite (with_nth vs i x)
+with_part nil_pointer i x = nil_pointer
+with_part (pointer y path) i x = pointer y path
+with_part nil_slice i x = nil_slice
+with_part (slice_in y path first count room) i x = slice_in y path first count room
 
 -- the part at a path
 abbrev pub at_path : Value → List ℕ → Value

@@ -22,6 +22,11 @@ mutual
     local : ℕ → Steps → Pl
     -- a package variable, by its number
     global : ℕ → Steps → Pl
+    -- what a pointer leads to: the position that a panic names where it leads nowhere, the pointer, and the number of the type of what
+    -- it leads to
+    indirect : Position → Ex → ℕ → Steps → Pl
+    -- an element of a slice: the position, the slice, the index, and the number of the elements' type
+    slice_element : Position → (slice index : Ex) → ℕ → Steps → Pl
 
   -- an expression with one value; a node that can panic has the place that the panic names
   pub data Ex : Type 0 where
@@ -38,6 +43,33 @@ mutual
     part_of : ℕ → ℕ → Ex → Ex
     -- a struct or an array of a type by its number; what no element is for is zero
     literal : ℕ → Elements → Ex
+    -- `nil`, of a type of pointers or of slices by its number
+    nil : ℕ → Ex
+    -- the address of a place
+    address_of : Pl → Ex
+    -- `new`: a pointer to a new variable of a site; and `&` of a literal: one to a new variable that begins with it
+    new_variable : ℕ → Ex
+    literal_variable : ℕ → Ex → Ex
+    -- a slice literal: a slice of all elements of a new array of a site, whose type is that of the elements
+    slice_literal : ℕ → Exs → Ex
+    -- `make`: a slice of a new array of a site, whose type is that of the elements, by its length, and its capacity if there is one
+    make : Position → ℕ → (count : Ex) → (room : Bound) → Ex
+    -- `append` of elements, and of those of a slice; a new array is one of the site, whose type is that of the elements
+    append : ℕ → Ex → Exs → Ex
+    append_slice : ℕ → Ex → Ex → Ex
+    -- `copy`, of elements of a type by its number
+    copy : ℕ → (target source : Ex) → Ex
+    -- a part of a slice of elements of a type by its number, and a slice of the array of this length at a place
+    slicing : Position → ℕ → Ex → (low high : Bound) → Ex
+    array_slicing : Position → Pl → ℕ → (low high : Bound) → Ex
+    -- `len` and `cap` of a slice
+    len : Ex → Ex
+    cap : Ex → Ex
+
+  -- a bound of a slicing, or a capacity, if there is one
+  pub data Bound : Type 0 where
+    absent : Bound
+    bound : Ex → Bound
 
   -- the elements of a literal in the order of the text, each with the number of the field or the element that it is for
   pub data Elements : Type 0 where
@@ -71,6 +103,12 @@ pub data Over : Type 0 where
   over_length : ℕ → Over
   -- the elements of an array of this length, of which a hidden variable of a site gets a copy
   over_copy : ℕ → Ex → ℕ → Over
+  -- the elements of a slice, of a type by its number
+  over_slice : Ex → ℕ → Over
+  -- those of the array of this length that a pointer leads to: the position that a panic names where it leads nowhere, the pointer, the
+  -- length, and the number of the elements' type; and its indices alone, for which the pointer is not worked out
+  over_pointer : Position → Ex → ℕ → ℕ → Over
+  over_pointed : ℕ → Over
 
 mutual
   pub data St : Type 0 where
@@ -81,7 +119,7 @@ mutual
     -- an assignment with an operator, and that of `++` and `--`
     update : Position → Pl → BinOp → Ex → St
     bump : Position → Pl → BinOp → St
-    -- a call whose results are not used
+    -- a call whose results are not used, also one of `copy`
     discard : Exs → St
     block : Sts → St
     if_stmt : Ex → Sts → Sts → St
@@ -183,6 +221,8 @@ path_of (at_index at e n steps) = 0 ∷ path_of steps
 abbrev pub place_type : Program → Pl → TypeTree
 place_type p (local site steps) = type_at (site_type p site) (path_of steps)
 place_type p (global g steps) = type_at (global_type p g) (path_of steps)
+place_type p (indirect at e n steps) = type_at (type_named p n) (path_of steps)
+place_type p (slice_element at e i n steps) = type_at (type_named p n) (path_of steps)
 
 abbrev pub place_width : Program → Pl → ℕ
 place_width p q = width (place_type p q)
@@ -193,6 +233,13 @@ wide p (read q) = place_width p q
 wide p (call f es) = results_of p f
 wide p (part_of n i e) = width (part_type (type_named p n) i)
 wide p (literal n es) = width (type_named p n)
+wide p (nil n) = width (type_named p n)
+wide p (slice_literal site es) = 3
+wide p (make at site count room) = 3
+wide p (append site e es) = 3
+wide p (append_slice site e s) = 3
+wide p (slicing at n e low high) = 3
+wide p (array_slicing at q n low high) = 3
 wide p e = 1
 
 abbrev pub all_wide : Program → Exs → ℕ

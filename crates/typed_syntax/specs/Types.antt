@@ -2,7 +2,8 @@
 use Rattle.std.specs.Prelude.{ℕ, zero, suc, ◌+◌, ◌*◌, ◌<◌, List, [], ◌∷◌, ◌++◌, get_or}
 
 mutual
-  -- a type stands whole: none here holds itself
+  -- a type stands whole: none here holds itself. What a pointer leads to, and what the elements of a slice are, is named by its number
+  -- in the program's table of types, so a type may lead to itself
   pub data TypeTree : Type 0 where
     -- whole numbers, and truth values
     ints : TypeTree
@@ -11,6 +12,9 @@ mutual
     struct_of : PartTypes → TypeTree
     -- arrays, by their length and the type of their elements
     array_of : ℕ → TypeTree → TypeTree
+    -- pointers to variables of a type, and slices of elements of a type, by its number
+    pointer_to : ℕ → TypeTree
+    slice_of : ℕ → TypeTree
 
   pub data PartTypes : Type 0 where
     no_types : PartTypes
@@ -23,6 +27,9 @@ abbrev mutual
   width bools = 1
   width (struct_of ts) = widths ts
   width (array_of n t) = n * width t
+  width (pointer_to n) = 1
+  -- the address of the first element, the length and the capacity
+  width (slice_of n) = 3
 
   pub widths : PartTypes → ℕ
   widths no_types = 0
@@ -39,6 +46,8 @@ part_types ints = no_types
 part_types bools = no_types
 part_types (struct_of ts) = ts
 part_types (array_of n t) = repeated n t
+part_types (pointer_to n) = no_types
+part_types (slice_of n) = no_types
 
 abbrev pub types_in : PartTypes → ℕ
 types_in no_types = 0
@@ -72,6 +81,8 @@ pub data TypeEntry : Type 0 where
   bool_entry : TypeEntry
   struct_entry : (fields : List ℕ) → TypeEntry
   array_entry : (length element : ℕ) → TypeEntry
+  pointer_entry : (target : ℕ) → TypeEntry
+  slice_entry : (element : ℕ) → TypeEntry
 
 abbrev pub numbered : List TypeTree → ℕ → TypeTree
 numbered known t = get_or known t ints
@@ -86,6 +97,8 @@ entry_type known int_entry = ints
 entry_type known bool_entry = bools
 entry_type known (struct_entry fields) = struct_of (all_numbered known fields)
 entry_type known (array_entry n t) = array_of n (numbered known t)
+entry_type known (pointer_entry t) = pointer_to t
+entry_type known (slice_entry t) = slice_of t
 
 -- the types of a table, each made of those before it
 abbrev pub types_after : List TypeTree → List TypeEntry → List TypeTree
@@ -99,9 +112,11 @@ abbrev pub AllBelow : ℕ → List ℕ → Type 0
 AllBelow n [] = Unit {0}
 AllBelow n (t ∷ ts) = (t < n) × AllBelow n ts
 
--- the types of the parts of an entry stand before it
+-- the types of the parts of an entry stand before it; what a pointer or a slice leads to may stand anywhere
 abbrev pub PartsBefore : ℕ → TypeEntry → Type 0
 PartsBefore n int_entry = Unit {0}
 PartsBefore n bool_entry = Unit {0}
 PartsBefore n (struct_entry fields) = AllBelow n fields
 PartsBefore n (array_entry length t) = t < n
+PartsBefore n (pointer_entry t) = Unit {0}
+PartsBefore n (slice_entry t) = Unit {0}

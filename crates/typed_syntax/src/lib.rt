@@ -4,10 +4,12 @@
 //!
 //! A type is whole numbers, truth values, a struct of types or an array of a type, and stands whole, since none of these holds itself: a
 //! program's table of types, in which each names those of its parts by their numbers, gives such types where parts stand before what
-//! they are parts of.
+//! they are parts of. Types of pointers and of slices name what they lead to by its number there, and so end a type: what goes in
+//! circles goes through them.
 //! A value is a tree: a number, a truth value, or a composite of values, the fields of a struct or the elements of an array. A
 //! struct and an array differ in their types alone, which say how many parts a value has, the type of each, and how many words
-//! stand before it. So each fact of both is one recursion over parts.
+//! stand before it. So each fact of both is one recursion over parts. A pointer names a variable, by its number in the order of births,
+//! and a path in it; a slice besides names elements of the array that is there. Neither has parts of its own.
 //!
 //! A path is a list of numbers of fields and indices. `at_path` reads the part at a path, `with_path` replaces it, and both are
 //! functions of all values and paths: what is not there reads as 0, and nothing is put in its place. `Leads t path s` says that

@@ -1,8 +1,8 @@
 -- The part at a path stands among the words of the whole.
 use Rattle.std.proofs.Common.{◌≡◌, ◌≢◌, ◌⊎◌, inl, inr, ℕ, zero, suc, ◌+◌, ◌*◌, ◌<◌, ◌≤◌, List, [], ◌∷◌, ◌++◌, length, map, get_or, refl, sym, ap, ◌∙◌, subst, arith, append_assoc, append-nil, length-append, suc-mul}
 use Rattle.std.proofs.lemmas.List.{length-map}
-use Rattle.typed_syntax.specs.Types.{TypeTree, PartTypes, ints, bools, struct_of, array_of, no_types, more_types, width, widths, repeated, part_types, types_in, nth_type, widths_before, part_count, part_type, part_offset}
-use Rattle.typed_syntax.specs.Value.{Value, Values, int, bool, composite, no_values, more_values, words, words_in, IsOf, AreOf, FitsWords, FitWords}
+use Rattle.typed_syntax.specs.Types.{TypeTree, PartTypes, ints, bools, struct_of, array_of, pointer_to, slice_of, no_types, more_types, width, widths, repeated, part_types, types_in, nth_type, widths_before, part_count, part_type, part_offset}
+use Rattle.typed_syntax.specs.Value.{Value, Values, int, bool, composite, nil_pointer, pointer, nil_slice, slice_in, no_values, more_values, words, words_in, IsOf, AreOf, FitsWords, FitWords}
 use Rattle.typed_syntax.specs.Paths.{nth_value, with_nth, part, with_part, at_path, with_path, Leads, type_at, offset, Apart}
 use Rattle.typed_syntax.specs.Words.{Content, contents, contents_in, word_of, Hold, slice, with_slice}
 use Rattle.value_laws.specs.Laws.{Counted, Sliced, Replaced, PartWords, HeldParts, Element, Typed, Fits, ReadBack, Joined, JoinedTypes}
@@ -19,6 +19,8 @@ width_parts ints i l = absurd (omega arith)
 width_parts bools i l = absurd (omega arith)
 width_parts (struct_of ts) i l = refl
 width_parts (array_of n t) i l = width_repeated n t
+width_parts (pointer_to n) i l = absurd (omega arith)
+width_parts (slice_of n) i l = absurd (omega arith)
 
 -- a value with parts is a struct or an array
 pub parted : (P : Value → Type 0) (t : TypeTree) (v : Value) (i : ℕ) → IsOf t v → i < part_count t → ((vs : Values) → AreOf (part_types t) vs → P (composite vs)) → P v
@@ -26,10 +28,10 @@ parted P ints v i is l f = absurd (omega arith)
 parted P bools v i is l f = absurd (omega arith)
 parted P (struct_of ts) (composite vs) i is l f = f vs is
 parted P (array_of n t) (composite vs) i is l f = f vs is
-parted P (struct_of ts) (int z) i is l f = absurd is
-parted P (struct_of ts) (bool b) i is l f = absurd is
-parted P (array_of n t) (int z) i is l f = absurd is
-parted P (array_of n t) (bool b) i is l f = absurd is
+parted P (pointer_to n) v i is l f = absurd (omega arith)
+parted P (slice_of n) v i is l f = absurd (omega arith)
+parted P (struct_of ts) v i is l f = absurd is
+parted P (array_of n t) v i is l f = absurd is
 
 pub nth_is : (ts : PartTypes) (vs : Values) (i : ℕ) → AreOf ts vs → i < types_in ts → IsOf (nth_type ts i) (nth_value vs i)
 nth_is no_types vs i are l = absurd (omega arith)
@@ -51,6 +53,8 @@ composite_is ints vs i l are = absurd (omega arith)
 composite_is bools vs i l are = absurd (omega arith)
 composite_is (struct_of ts) vs i l are = are
 composite_is (array_of n t) vs i l are = are
+composite_is (pointer_to n) vs i l are = absurd (omega arith)
+composite_is (slice_of n) vs i l are = absurd (omega arith)
 
 pub with_part_is : (t : TypeTree) (v x : Value) (i : ℕ) → IsOf t v → i < part_count t → IsOf (part_type t i) x → IsOf t (with_part v i x)
 with_part_is t v x i is l ix = parted (λ u. IsOf t (with_part u i x)) t v i is l (λ vs are. composite_is t (with_nth vs i x) i l (with_nth_are (part_types t) vs i x are l ix))
@@ -63,14 +67,11 @@ mutual
   count_of bools (bool b) is = refl
   count_of (struct_of ts) (composite vs) is = counts_of ts vs is
   count_of (array_of n t) (composite vs) is = counts_of (repeated n t) vs is ∙ width_repeated n t
-  count_of ints (bool b) is = absurd is
-  count_of ints (composite vs) is = absurd is
-  count_of bools (int z) is = absurd is
-  count_of bools (composite vs) is = absurd is
-  count_of (struct_of ts) (int z) is = absurd is
-  count_of (struct_of ts) (bool b) is = absurd is
-  count_of (array_of n t) (int z) is = absurd is
-  count_of (array_of n t) (bool b) is = absurd is
+  count_of (pointer_to n) nil_pointer is = refl
+  count_of (pointer_to n) (pointer x path) is = refl
+  count_of (slice_of n) nil_slice is = refl
+  count_of (slice_of n) (slice_in x path first count room) is = refl
+  count_of t v is = absurd is
 
   pub counts_of : (ts : PartTypes) (vs : Values) → AreOf ts vs → length (contents_in vs) ≡ widths ts
   counts_of no_types no_values are = refl
@@ -83,6 +84,10 @@ mutual
   words_count (int z) = refl
   words_count (bool b) = refl
   words_count (composite vs) = words_in_count vs
+  words_count nil_pointer = refl
+  words_count (pointer x path) = refl
+  words_count nil_slice = refl
+  words_count (slice_in x path first count room) = refl
 
   pub words_in_count : (vs : Values) → words_in vs ≡ length (contents_in vs)
   words_in_count no_values = refl
@@ -242,14 +247,12 @@ with_nth_fits (more_values v vs) zero x f g = (g, f.1)
 with_nth_fits (more_values v vs) (suc i) x f g = (f.0, with_nth_fits vs i x f.1 g)
 
 part_fits : (v : Value) (i : ℕ) → FitsWords v → FitsWords (part v i)
-part_fits (int z) i f = nth_fits no_values i tt
-part_fits (bool b) i f = nth_fits no_values i tt
 part_fits (composite vs) i f = nth_fits vs i f
+part_fits v i f = nth_fits no_values i tt
 
 with_part_fits : (v x : Value) (i : ℕ) → FitsWords v → FitsWords x → FitsWords (with_part v i x)
-with_part_fits (int z) x i f g = f
-with_part_fits (bool b) x i f g = f
 with_part_fits (composite vs) x i f g = with_nth_fits vs i x f g
+with_part_fits v x i f g = f
 
 pub fits : (v x : Value) (path : List ℕ) → FitsWords v → FitsWords x → Fits v x path
 fits v x [] f g = record { part = f; replaced = g }
@@ -272,9 +275,8 @@ with_nth_twice (more_values v vs) zero x y = refl
 with_nth_twice (more_values v vs) (suc i) x y = ap (more_values v) (with_nth_twice vs i x y)
 
 with_part_twice : (v x y : Value) (i : ℕ) → with_part (with_part v i x) i y ≡ with_part v i y
-with_part_twice (int z) x y i = refl
-with_part_twice (bool b) x y i = refl
 with_part_twice (composite vs) x y i = ap composite (with_nth_twice vs i x y)
+with_part_twice v x y i = refl
 
 with_nth_same : (vs : Values) (i : ℕ) → with_nth vs i (nth_value vs i) ≡ vs
 with_nth_same no_values i = refl
@@ -282,9 +284,8 @@ with_nth_same (more_values v vs) zero = refl
 with_nth_same (more_values v vs) (suc i) = ap (more_values v) (with_nth_same vs i)
 
 with_part_same : (v : Value) (i : ℕ) → with_part v i (part v i) ≡ v
-with_part_same (int z) i = refl
-with_part_same (bool b) i = refl
 with_part_same (composite vs) i = ap composite (with_nth_same vs i)
+with_part_same v i = refl
 
 pub read_back : (t s : TypeTree) (v x y : Value) (path : List ℕ) → IsOf t v → Leads t path s → ReadBack v x y path
 read_back t s v x y [] is leads = record { read = refl; again = refl; nothing = refl }
@@ -305,9 +306,8 @@ nth_other (more_values v vs) (suc i) zero x ne = refl
 nth_other (more_values v vs) (suc i) (suc j) x ne = nth_other vs i j x (λ e. ne (ap suc e))
 
 part_other : (v x : Value) (i j : ℕ) → i ≢ j → part (with_part v i x) j ≡ part v j
-part_other (int z) x i j ne = refl
-part_other (bool b) x i j ne = refl
 part_other (composite vs) x i j ne = nth_other vs i j x ne
+part_other v x i j ne = refl
 
 -- a part that something was put in, or none if there is no such part
 nth_put : (P : Value → Type 0) (vs : Values) (i : ℕ) (x : Value) → P x → P (nth_value vs i) → P (nth_value (with_nth vs i x) i)
@@ -316,9 +316,8 @@ nth_put P (more_values v vs) zero x new old = new
 nth_put P (more_values v vs) (suc i) x new old = nth_put P vs i x new old
 
 part_put : (P : Value → Type 0) (v x : Value) (i : ℕ) → P x → P (part v i) → P (part (with_part v i x) i)
-part_put P (int z) x i new old = old
-part_put P (bool b) x i new old = old
 part_put P (composite vs) x i new old = nth_put P vs i x new old
+part_put P v x i new old = old
 
 pub others_stay : (v x : Value) (p q : List ℕ) → Apart p q → at_path (with_path v p x) q ≡ at_path v q
 others_stay v x [] q apart = absurd apart

@@ -2,7 +2,7 @@
 use Rattle.std.proofs.Common.{◌≡◌, ℕ, zero, suc, ◌+◌, ◌<◌, List, [], ◌∷◌, ◌++◌, length, Some, refl, sym, ap, ap₂, ◌∙◌, subst, arith, append_assoc, append-nil, length-append}
 use Rattle.std.specs.Prelude.{slice_get}
 use Rattle.std.proofs.lemmas.List.{get_or_append_left}
-use Rattle.typed_syntax.specs.Types.{TypeTree, ints, struct_of, array_of, more_types, TypeEntry, int_entry, bool_entry, struct_entry, array_entry, numbered, all_numbered, entry_type, types_after, types_of, AllBelow, PartsBefore}
+use Rattle.typed_syntax.specs.Types.{TypeTree, ints, struct_of, array_of, more_types, TypeEntry, int_entry, bool_entry, struct_entry, array_entry, pointer_entry, slice_entry, numbered, all_numbered, entry_type, types_after, types_of, AllBelow, PartsBefore}
 
 -- what is known stays
 after_grows : (known : List TypeTree) (es : List TypeEntry) → (more : List TypeTree) × (types_after known es ≡ known ++ more)
@@ -23,6 +23,8 @@ entry_stays known more int_entry before = refl
 entry_stays known more bool_entry before = refl
 entry_stays known more (struct_entry fields) before = ap struct_of (all_numbered_stay known more fields before)
 entry_stays known more (array_entry n t) before = ap (array_of n) (numbered_stays known more t before)
+entry_stays known more (pointer_entry t) before = refl
+entry_stays known more (slice_entry t) before = refl
 
 get_first : (xs ys : List TypeTree) (x : TypeTree) → slice_get (xs ++ x ∷ ys) (length xs) ≡ Some x
 get_first [] ys x = refl

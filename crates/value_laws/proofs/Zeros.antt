@@ -1,8 +1,8 @@
 -- Zero values.
 use Rattle.std.proofs.Common.{◌≡◌, ℕ, zero, suc, ◌+◌, ◌*◌, ◌<◌, List, [], ◌∷◌, ◌++◌, map, replicate, refl, sym, ap, ◌∙◌, subst, arith, suc-mul}
 use Rattle.std.proofs.lemmas.List.{replicate-append-replicate}
-use Rattle.typed_syntax.specs.Types.{TypeTree, PartTypes, ints, bools, struct_of, array_of, no_types, more_types, width, widths, repeated, types_in, nth_type, part_count, part_type}
-use Rattle.typed_syntax.specs.Value.{Value, IsOf, AreOf, FitsWords, FitWords, copies, zero_of, zeros_of}
+use Rattle.typed_syntax.specs.Types.{TypeTree, PartTypes, ints, bools, struct_of, array_of, pointer_to, slice_of, no_types, more_types, width, widths, repeated, types_in, nth_type, part_count, part_type}
+use Rattle.typed_syntax.specs.Value.{Value, IsOf, AreOf, FitsWords, FitWords, LeadsNowhere, LeadNowhere, copies, zero_of, zeros_of}
 use Rattle.typed_syntax.specs.Paths.{nth_value, part, at_path, Leads}
 use Rattle.typed_syntax.specs.Words.{Content, contents, contents_in, word_of, IsZero, Hold}
 use Rattle.value_laws.specs.Laws.{Zero}
@@ -22,6 +22,8 @@ mutual
   zero_is bools = tt
   zero_is (struct_of ts) = zeros_are ts
   zero_is (array_of n t) = copies_are n t (zero_of t) (zero_is t)
+  zero_is (pointer_to n) = tt
+  zero_is (slice_of n) = tt
 
   zeros_are : (ts : PartTypes) → AreOf ts (zeros_of ts)
   zeros_are no_types = tt
@@ -33,10 +35,29 @@ mutual
   zero_fits bools = search arith
   zero_fits (struct_of ts) = zeros_fit ts
   zero_fits (array_of n t) = copies_fit n (zero_of t) (zero_fits t)
+  zero_fits (pointer_to n) = search arith
+  zero_fits (slice_of n) = search arith
 
   zeros_fit : (ts : PartTypes) → FitWords (zeros_of ts)
   zeros_fit no_types = tt
   zeros_fit (more_types t ts) = (zero_fits t, zeros_fit ts)
+
+copies_alone : (n : ℕ) (v : Value) → LeadsNowhere v → LeadNowhere (copies n v)
+copies_alone zero v f = tt
+copies_alone (suc n) v f = (f, copies_alone n v f)
+
+mutual
+  pub zero_alone : (t : TypeTree) → LeadsNowhere (zero_of t)
+  zero_alone ints = tt
+  zero_alone bools = tt
+  zero_alone (struct_of ts) = zeros_alone ts
+  zero_alone (array_of n t) = copies_alone n (zero_of t) (zero_alone t)
+  zero_alone (pointer_to n) = tt
+  zero_alone (slice_of n) = tt
+
+  zeros_alone : (ts : PartTypes) → LeadNowhere (zeros_of ts)
+  zeros_alone no_types = tt
+  zeros_alone (more_types t ts) = (zero_alone t, zeros_alone ts)
 
 -- zeros stand for it
 module _ (Holds : Content → ℕ → Type 0) (base : (c : Content) → IsZero c → Holds c 0) where
@@ -54,6 +75,8 @@ module _ (Holds : Content → ℕ → Type 0) (base : (c : Content) → IsZero c
     zero_held bools = (base _ refl, tt)
     zero_held (struct_of ts) = zeros_held ts
     zero_held (array_of n t) = copies_held n (width t) (zero_of t) (zero_held t)
+    zero_held (pointer_to n) = (base _ tt, tt)
+    zero_held (slice_of n) = (base _ tt, (base _ refl, (base _ refl, tt)))
 
     zeros_held : (ts : PartTypes) → Hold Holds (contents_in (zeros_of ts)) (replicate (widths ts) 0)
     zeros_held no_types = tt
@@ -71,6 +94,9 @@ told (c ∷ cs) [] h = absurd h
 zero_word : (c : Content) → IsZero c → word_of c ≡ 0
 zero_word (Content.number z) e = ap (λ x. word_of (Content.number x)) e
 zero_word (Content.truth b) e = ap (λ x. word_of (Content.truth x)) e
+zero_word Content.no_address e = refl
+zero_word (Content.part_address x path) e = absurd e
+zero_word (Content.array_address x path first room) e = absurd e
 
 nth_copies : (n : ℕ) (t : TypeTree) (v : Value) (i : ℕ) → i < types_in (repeated n t) → nth_value (copies n v) i ≡ v
 nth_copies zero t v i l = absurd (omega arith)
@@ -90,6 +116,8 @@ nth_zeros (more_types t ts) (suc i) l = nth_zeros ts i (omega arith)
 zero_part : (t : TypeTree) (i : ℕ) → i < part_count t → part (zero_of t) i ≡ zero_of (part_type t i)
 zero_part ints i l = absurd (omega arith)
 zero_part bools i l = absurd (omega arith)
+zero_part (pointer_to n) i l = absurd (omega arith)
+zero_part (slice_of n) i l = absurd (omega arith)
 zero_part (struct_of ts) i l = nth_zeros ts i l
 zero_part (array_of n t) i l = nth_copies n t (zero_of t) i l ∙ ap zero_of (sym (nth_repeated n t i l))
 
@@ -101,6 +129,7 @@ pub zero_value : (t : TypeTree) → Zero t
 zero_value t = record {
   typed = zero_is t;
   fits = zero_fits t;
+  alone = zero_alone t;
   words = told (contents (zero_of t)) (replicate (width t) 0) (zero_held (λ c w. word_of c ≡ w) zero_word t);
   part = λ path s leads. zero_at t path s leads;
 }

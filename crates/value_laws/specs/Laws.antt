@@ -1,9 +1,9 @@
 -- What holds of all types, values and paths.
 use Rattle.std.specs.Prelude.{◌≡◌, ◌⊎◌, ◌↔◌, ℕ, ◌+◌, ◌*◌, ◌<◌, ◌≤◌, Bool, List, ◌∷◌, ◌++◌, length, replicate, get_or, slice_get, Some, IsTrue, Decides}
 use Rattle.typed_syntax.specs.Types.{TypeTree, array_of, width, TypeEntry, entry_type, types_of, PartsBefore}
-use Rattle.typed_syntax.specs.Value.{Value, words, IsOf, FitsWords, zero_of, same}
+use Rattle.typed_syntax.specs.Value.{Value, Values, int, bool, composite, nil_pointer, pointer, nil_slice, slice_in, no_values, more_values, words, IsOf, FitsWords, LeadsNowhere, zero_of, same}
 use Rattle.typed_syntax.specs.Paths.{at_path, with_path, Leads, type_at, offset, Apart}
-use Rattle.typed_syntax.specs.Words.{Content, contents, words_of, IsZero, AreAlike, Hold, all_equal, slice, with_slice}
+use Rattle.typed_syntax.specs.Words.{Content, number, truth, no_address, part_address, array_address, contents, words_of, IsZero, AreAlike, Hold, all_equal, slice, with_slice}
 
 -- ---- words
 
@@ -125,6 +125,7 @@ TypedPathsJoin = (t s r : TypeTree) (p q : List ℕ) → Leads t p s → JoinedT
 pub record Zero (t : TypeTree) : Type 0 where
   pub typed : IsOf t (zero_of t)
   pub fits : FitsWords (zero_of t)
+  pub alone : LeadsNowhere (zero_of t)
   pub words : words_of (zero_of t) ≡ replicate (width t) 0
   pub part : (path : List ℕ) (s : TypeTree) → Leads t path s → at_path (zero_of t) path ≡ zero_of s
 
@@ -137,23 +138,50 @@ ZerosAreHeld = (holds : Content → ℕ → Bool) (t : TypeTree) → ((c : Conte
 
 -- ---- equality
 
--- `same` says whether values are equal
-abbrev pub SameIsEqual : Type 0
-SameIsEqual = (v u : Value) → Decides (same v u) (v ≡ u)
+-- no slice is in a value but `nil`, as slices are compared with that alone
+abbrev mutual
+  pub HasNoSlices : Value → Type 0
+  HasNoSlices (int z) = Unit {0}
+  HasNoSlices (bool b) = Unit {0}
+  HasNoSlices (composite vs) = HaveNoSlices vs
+  HasNoSlices nil_pointer = Unit {0}
+  HasNoSlices (pointer x path) = Unit {0}
+  HasNoSlices nil_slice = Unit {0}
+  HasNoSlices (slice_in x path first count room) = ⊥
 
--- values of one type are equal exactly where what their words hold is equal, and where their words are
+  pub HaveNoSlices : Values → Type 0
+  HaveNoSlices no_values = Unit {0}
+  HaveNoSlices (more_values v vs) = HasNoSlices v × HaveNoSlices vs
+
+-- `same` says whether values are equal, where one of them has no slices
+abbrev pub SameIsEqual : Type 0
+SameIsEqual = (v u : Value) → HasNoSlices v → Decides (same v u) (v ≡ u)
+
+-- Values of one type are equal exactly where what their words hold is equal; where words are that hold it in a way in which two words
+-- are equal exactly where what they hold is; and where their own words are, if they lead nowhere.
 pub record EqualWords (v u : Value) : Type 0 where
   pub by_contents : (contents v ≡ contents u) ↔ (v ≡ u)
-  pub by_words : FitsWords v → FitsWords u → (words_of v ≡ words_of u) ↔ (v ≡ u)
+  pub by_held : (holds : Content → ℕ → Bool) (xs ys : List ℕ)
+      → ((c d : Content) (x y : ℕ) → AreAlike c d → By holds c x → By holds d y → (x ≡ y) ↔ (c ≡ d))
+      → Hold (By holds) (contents v) xs → Hold (By holds) (contents u) ys → (xs ≡ ys) ↔ (v ≡ u)
+  pub by_words : LeadsNowhere v → LeadsNowhere u → FitsWords v → FitsWords u → (words_of v ≡ words_of u) ↔ (v ≡ u)
 
 abbrev pub EqualWordsAreEqual : Type 0
 EqualWordsAreEqual = (t : TypeTree) (v u : Value) → IsOf t v → IsOf t u → EqualWords v u
 
+-- a word that holds no address of an array's element
+abbrev pub IsNoElement : Content → Type 0
+IsNoElement (number z) = Unit {0}
+IsNoElement (truth b) = Unit {0}
+IsNoElement no_address = Unit {0}
+IsNoElement (part_address x path) = Unit {0}
+IsNoElement (array_address x path first room) = ⊥
+
 -- so comparing the words one by one compares the values, where comparing two words compares what they hold
 abbrev pub ComparedByWords : Type 0
 ComparedByWords = (holds : Content → ℕ → Bool) (equal : ℕ → ℕ → Bool) (t : TypeTree) (v u : Value) (xs ys : List ℕ)
-    → ((c d : Content) (x y : ℕ) → AreAlike c d → By holds c x → By holds d y → Decides (equal x y) (c ≡ d))
-    → IsOf t v → IsOf t u → Hold (By holds) (contents v) xs → Hold (By holds) (contents u) ys → all_equal equal xs ys ≡ same v u
+    → ((c d : Content) (x y : ℕ) → AreAlike c d → IsNoElement c → By holds c x → By holds d y → Decides (equal x y) (c ≡ d))
+    → IsOf t v → IsOf t u → HasNoSlices v → Hold (By holds) (contents v) xs → Hold (By holds) (contents u) ys → all_equal equal xs ys ≡ same v u
 
 -- ---- a table of types
 

@@ -72,22 +72,23 @@ pub fn zeros_are_zeros()
     ensures { ZerosAreZeros }
 {}
 
-/// Words that are 0 hold the zero value of a type wherever 0 holds that of a number and of a truth value.
+/// Words that are 0 hold the zero value of a type wherever 0 holds that of a number, that of a truth value, and no address.
 pub fn zeros_are_held()
     ensures { ZerosAreHeld }
 {}
 
-/// `same` says whether two values are equal.
+/// `same` says whether two values are equal, where one has no slices but `nil`.
 pub fn same_is_equal()
     ensures { SameIsEqual }
 {}
 
-/// Two values of one type are equal exactly where their words are.
+/// Two values of one type are equal exactly where words that hold them are, where this is so of single words, as of values that
+/// lead nowhere.
 pub fn equal_words_are_equal()
     ensures { EqualWordsAreEqual }
 {}
 
-/// Comparing words one by one compares two values of a type.
+/// Comparing words one by one compares two values of a type, of which one has no slices but `nil`.
 pub fn compared_by_words()
     ensures { ComparedByWords }
 {}
