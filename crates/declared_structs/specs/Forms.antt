@@ -22,6 +22,8 @@ base_of value_type.Int = Some Int
 base_of value_type.Bool = Some Truth
 base_of (value_type.Struct k) = Some (Struct k)
 base_of (value_type.Array n e) = None
+base_of (value_type.Pointer e) = None
+base_of (value_type.Slice e) = None
 
 abbrev pub base_in : Option Declared → Option Base
 base_in (Some (declared.«Type» t)) = base_of t

@@ -26,7 +26,7 @@ fn base_of(value_type: ValueType) -> Option<Base>
         ValueType::Int => Some(Base::Int),
         ValueType::Bool => Some(Base::Bool),
         ValueType::Struct(id) => Some(Base::Struct(id)),
-        ValueType::Array(_, _) => None,
+        ValueType::Array(_, _) | ValueType::Pointer(_) | ValueType::Slice(_) => None,
     }
 }
 

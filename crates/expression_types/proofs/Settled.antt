@@ -13,7 +13,7 @@ use Rattle.type_faults.specs.declared.fault.FaultKind.TheVariants.{ConstRange, U
 use Rattle.constants.specs.declared.constant.Constant.{Constant}
 use Rattle.constants.specs.declared.constant.Constant.TheVariants.{Number, Truth}
 use Rattle.base.specs.declared.value_type.ValueType.{ValueType}
-use Rattle.base.specs.declared.value_type.ValueType.TheVariants.{Int, Bool as Boolean, Struct, Array}
+use Rattle.base.specs.declared.value_type.ValueType.TheVariants.{Int, Bool as Boolean, Struct, Array, Pointer, Slice}
 use Rattle.constants.specs.Constants.{untyped}
 use Rattle.type_faults.specs.Given.{allowed, both}
 use Rattle.type_faults.specs.Faults.{fault, IsFault, FormFails}
@@ -93,6 +93,8 @@ module _ (text : List ℕ) (s : Scope) where
   inner_tested e (Some (value Int x)) = λ f h. h
   inner_tested e (Some (value Boolean x)) = λ f h. h
   inner_tested e (Some (value (Struct k) x)) = λ f h. h
+  inner_tested e (Some (value (Pointer t) x)) = λ f h. h
+  inner_tested e (Some (value (Slice t) x)) = λ f h. h
   inner_tested e (Some (value (Array n t) x)) = by (has_call x)
     where
       by : (b : Bool) → Tested (not b) (IsFault (cond b (Some (fault OutOfProfile (call_pos text s e))) None))
@@ -196,18 +198,24 @@ stated_known text s (elements at es) t is = absurd (none_some is)
 literal_known : (T : Table) (u v : ValueType) → IsKnownType T u → as_literal u ≡ as_type v → IsKnownType T v
 literal_known T Int v known is = cc is
 literal_known T Boolean v known is = cc is
+literal_known T (Pointer e) v known is = cc is
+literal_known T (Slice e) v known is = cc is
 literal_known T (Struct k) v known is = let same1 : Struct k ≡ v = cc is in subst (IsKnownType T) same1 known
 literal_known T (Array n e) v known is = let same1 : Array n e ≡ v = cc is in subst (IsKnownType T) same1 known
 
 elided_known : (T : Table) → IsFormed T → (t v : ValueType) → IsKnownType T t → elided_in T t ≡ as_type v → IsKnownType T v
 elided_known T formed Int v known is = cc is
 elided_known T formed Boolean v known is = cc is
+elided_known T formed (Pointer e) v known is = cc is
+elided_known T formed (Slice e) v known is = cc is
 elided_known T formed (Struct k) v known is = cc is
 elided_known T formed (Array n e) v known is = literal_known T (type_at T e.0) v (element_known T formed n e known) is
 
 literal_named : (u : ValueType) → as_literal u ≡ unknown → ⊥
 literal_named Int is = cc is
 literal_named Boolean is = cc is
+literal_named (Pointer e) is = cc is
+literal_named (Slice e) is = cc is
 literal_named (Struct k) is = cc is
 literal_named (Array n e) is = cc is
 
@@ -215,6 +223,8 @@ literal_named (Array n e) is = cc is
 elided_named : (T : Table) (t : ValueType) → elided_in T t ≡ unknown → ⊥
 elided_named T Int is = cc is
 elided_named T Boolean is = cc is
+elided_named T (Pointer e) is = cc is
+elided_named T (Slice e) is = cc is
 elided_named T (Struct k) is = cc is
 elided_named T (Array n e) is = literal_named (type_at T e.0) is
 

@@ -8,7 +8,7 @@ use Rattle.type_faults.specs.declared.fault.FaultKind.TheVariants.{NotCallable, 
 use Rattle.constants.specs.declared.constant.Constant.{Constant}
 use Rattle.constants.specs.declared.constant.Constant.TheVariants.{Number, Truth}
 use Rattle.base.specs.declared.value_type.ValueType.{ValueType}
-use Rattle.base.specs.declared.value_type.ValueType.TheVariants.{Int, Bool as Boolean, Struct, Array}
+use Rattle.base.specs.declared.value_type.ValueType.TheVariants.{Int, Bool as Boolean, Struct, Array, Pointer, Slice}
 use Rattle.base.specs.Types.{same_type}
 use Rattle.constants.specs.Constants.{constant_type}
 use Rattle.type_faults.specs.Given.{allowed}
@@ -37,6 +37,8 @@ condition_value_decided at (value Int x) held = (_, refl)
 condition_value_decided at (value Boolean x) held = λ f h. h
 condition_value_decided at (value (Struct k) x) held = (_, refl)
 condition_value_decided at (value (Array n e) x) held = (_, refl)
+condition_value_decided at (value (Pointer e) x) held = (_, refl)
+condition_value_decided at (value (Slice e) x) held = (_, refl)
 condition_value_decided at nil held = (_, refl)
 condition_value_decided at (constant a) held = by (constant_type a.value_type a.value) a.value (held_type a.value_type a.value held)
   where
@@ -46,6 +48,8 @@ condition_value_decided at (constant a) held = by (constant_type a.value_type a.
     by Boolean (Number z) same1 = cc same1
     by (Struct k) c same1 = (_, refl)
     by (Array n e) c same1 = (_, refl)
+    by (Pointer e) c same1 = (_, refl)
+    by (Slice e) c same1 = (_, refl)
 
 -- ---- names
 

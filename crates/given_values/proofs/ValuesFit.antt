@@ -30,7 +30,7 @@ use Rattle.typed_syntax.specs.Value.{int}
 use Rattle.constants.specs.declared.constant.Constant.{Constant}
 use Rattle.constants.specs.declared.constant.Constant.TheVariants.{Number, Truth}
 use Rattle.base.specs.declared.value_type.ValueType.{ValueType}
-use Rattle.base.specs.declared.value_type.ValueType.TheVariants.{Int, Bool as Boolean}
+use Rattle.base.specs.declared.value_type.ValueType.TheVariants.{Int, Bool as Boolean, Slice}
 use Rattle.base.specs.Types.{same_type}
 use Rattle.base.proofs.Types.{same_is}
 use Rattle.constants.specs.Constants.{is_int, is_held, constant_type}
@@ -40,7 +40,7 @@ use Rattle.operators.specs.declared.folding.Const.{Const}
 use Rattle.operators.specs.declared.folding.ConstFault.{ConstFault}
 use Rattle.operators.specs.Folding.{folded_one}
 use Rattle.operators.specs.Operands.{Operand, constant, value, nil, type_of, is_assignable, constant_value, const_of, as_value, constant_of}
-use Rattle.operators.specs.Operators.{joint_type, converts, worked_out, takes_one, prefix_of, prefixed, takes, takes_both, result_type, right_allowed, arithmetic_of, compare_of, typed_pair, both_values, value_pair, combined}
+use Rattle.operators.specs.Operators.{joint_type, converts, worked_out, takes_one, prefix_of, prefixed, are_comparable, takes, takes_both, result_type, right_allowed, arithmetic_of, compare_of, typed_pair, both_values, value_pair, combined}
 use Rattle.operators.proofs.Held.{held_type, constant_is}
 use Rattle.names.specs.declared.scope.ValueId.{ValueId}
 use Rattle.names.specs.declared.scope.GlobalId.{GlobalId}
@@ -134,6 +134,10 @@ asked_types (t ∷ ts) [] all = absurd all
 asked_types (t ∷ ts) (u ∷ us) all = let front : t ≡ u = all.0 in let rest : ts ≡ us = asked_types ts us all.1 in cc (front, rest)
 
 -- ---- the types of operators
+
+comparable_same : (s t : ValueType) → are_comparable s t ≡ true → same_type s t ≡ true
+comparable_same (Slice e) t is = cc is
+comparable_same s t is = is
 
 takes_numbers : (op : ArithmeticOp) (s t : ValueType) → takes (Arithmetic op) s t ≡ true → (s ≡ Int) × (t ≡ Int)
 takes_numbers op Int Int is = (refl, refl)
@@ -280,8 +284,8 @@ module _ (T : Table) (p : Program) (scope : List ℕ) where
 
     order_fits : (op : CompareOp) (s t : ValueType) (at : Pos) (x y : Ex) → takes (Compare op) s t ≡ true → ExFits p scope (type_tree T s) x → ExFits p scope (type_tree T t) y
         → ExFits p scope bools (typed.binary (position at) (compare_of op) x y)
-    order_fits Equal s t at x y is f g = let k = alike_fits s t y is g in (type_tree T s, (k.0, refl), f, k.1)
-    order_fits NotEqual s t at x y is f g = let k = alike_fits s t y is g in (type_tree T s, (k.0, refl), f, k.1)
+    order_fits Equal s t at x y is f g = let k = alike_fits s t y (comparable_same s t is) g in (type_tree T s, (k.0, refl), f, k.1)
+    order_fits NotEqual s t at x y is f g = let k = alike_fits s t y (comparable_same s t is) g in (type_tree T s, (k.0, refl), f, k.1)
     order_fits Less Int Int at x y is f g = (ints, (refl, refl), as_number Int x refl f, as_number Int y refl g)
     order_fits LessEqual Int Int at x y is f g = (ints, (refl, refl), as_number Int x refl f, as_number Int y refl g)
     order_fits Greater Int Int at x y is f g = (ints, (refl, refl), as_number Int x refl f, as_number Int y refl g)

@@ -6,7 +6,7 @@ use Rattle.std.proofs.lemmas.Bool.{ltb-true}
 use Rattle.base.specs.declared.ids.TypeId.{TypeId}
 use Rattle.base.specs.declared.ids.StructId.{StructId}
 use Rattle.base.specs.declared.value_type.ValueType.{ValueType}
-use Rattle.base.specs.declared.value_type.ValueType.TheVariants.{Int, Bool as Truth, Struct, Array}
+use Rattle.base.specs.declared.value_type.ValueType.TheVariants.{Int, Bool as Truth, Struct, Array, Pointer, Slice}
 use Rattle.typed_syntax.specs.Types.{TypeTree, PartTypes, ints, array_of, width, part_count, part_type as tree_part, types_in, nth_type, repeated}
 use Rattle.type_faults.proofs.Options.{and_then_some, map_some, none_some, same_some}
 use Rattle.type_faults.specs.Given.{allowed}
@@ -124,6 +124,8 @@ module _ (T : Table) (formed : IsFormed T) where
   part_typed : (t : ValueType) (n j : ℕ) (u : ValueType) → HasTree T t j → part_type T t n ≡ Some u → IsPart T t (typed_part j n u)
   part_typed Int n j u h is = absurd (none_some is)
   part_typed Truth n j u h is = absurd (none_some is)
+  part_typed (Pointer e) n j u h is = absurd (none_some is)
+  part_typed (Slice e) n j u h is = absurd (none_some is)
   part_typed (Struct k) n j u h is = field_is k n j u h is
   part_typed (Array m e) n j u h is = by (nat_lt n m) refl is
     where
@@ -143,6 +145,8 @@ pub named_is : (s : Scope) → IsFormed s.types → (t : ValueType) (name : List
 named_is s formed Int name f is = absurd (none_some is)
 named_is s formed Truth name f is = absurd (none_some is)
 named_is s formed (Array n e) name f is = absurd (none_some is)
+named_is s formed (Pointer e) name f is = absurd (none_some is)
+named_is s formed (Slice e) name f is = absurd (none_some is)
 named_is s formed (Struct k) name f is =
     let q = and_then_some (part_of s.types (Struct k)) (field_number s k.0 name) f is in
     (part_is s.types formed (Struct k) q.0 f q.2).0

@@ -7,7 +7,7 @@ use Rattle.syntax.specs.declared.expression.Name.{Name}
 use Rattle.syntax.specs.Expressions.{Ex as TreeEx, Exs as TreeExs, Bound, Elements as TreeElements, spelled}
 use Rattle.syntax.specs.Expressions as tree
 use Rattle.syntax.specs.FirstBytes.{first_pos}
-use Rattle.typed_syntax.specs.Syntax.{Ex, Pl, Steps, Elements}
+use Rattle.typed_syntax.specs.Syntax.{Ex, Exs, Pl, Steps, Elements, Bound as TypedBound}
 use Rattle.typed_syntax.specs.Syntax as typed
 use Rattle.type_faults.specs.declared.fault.Fault.{Fault}
 use Rattle.type_faults.specs.declared.fault.FaultKind.TheVariants.{OutOfProfile}
@@ -29,10 +29,36 @@ abbrev mutual
   has_call (typed.call f es) = true
   has_call (typed.part_of n i e) = has_call e
   has_call (typed.literal n es) = has_call_in_elements es
+  has_call (typed.nil n) = false
+  has_call (typed.address_of q) = has_call_in_place q
+  has_call (typed.literal_variable site e) = has_call e
+  has_call (typed.slice_literal site es) = has_call_in_each es
+  has_call (typed.slicing at n e low high) = has_call e || (has_call_in_bound low || has_call_in_bound high)
+  has_call (typed.array_slicing at q n low high) = has_call_in_place q || (has_call_in_bound low || has_call_in_bound high)
+  -- a function of the language counts, where it gives no constant
+  has_call (typed.new_variable site) = true
+  has_call (typed.make at site e room) = true
+  has_call (typed.append site e es) = true
+  has_call (typed.append_slice site a b) = true
+  has_call (typed.copy n a b) = true
+  has_call (typed.len e) = true
+  has_call (typed.cap e) = true
+
+  pub has_call_in_bound : TypedBound → Bool
+  has_call_in_bound typed.absent = false
+  has_call_in_bound (typed.bound e) = has_call e
+
+  pub has_call_in_each : Exs → Bool
+  has_call_in_each typed.none = false
+  has_call_in_each (typed.more e es) = has_call e || has_call_in_each es
+  has_call_in_each (typed.results f es) = true
+  has_call_in_each typed.read_int = true
 
   pub has_call_in_place : Pl → Bool
   has_call_in_place (typed.local site steps) = has_call_in_steps steps
   has_call_in_place (typed.global g steps) = has_call_in_steps steps
+  has_call_in_place (typed.indirect at e n steps) = has_call e || has_call_in_steps steps
+  has_call_in_place (typed.slice_element at e i n steps) = has_call e || (has_call i || has_call_in_steps steps)
 
   pub has_call_in_steps : Steps → Bool
   has_call_in_steps typed.here = false

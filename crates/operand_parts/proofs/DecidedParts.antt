@@ -7,7 +7,7 @@ use Rattle.base.specs.declared.pos.Pos.{Pos}
 use Rattle.base.specs.declared.ids.TypeId.{TypeId}
 use Rattle.base.specs.declared.ids.StructId.{StructId}
 use Rattle.base.specs.declared.value_type.ValueType.{ValueType}
-use Rattle.base.specs.declared.value_type.ValueType.TheVariants.{Int, Bool as Truth, Struct, Array}
+use Rattle.base.specs.declared.value_type.ValueType.TheVariants.{Int, Bool as Truth, Struct, Array, Pointer, Slice}
 use Rattle.syntax.specs.declared.expression.Name.{Name}
 use Rattle.syntax.specs.Expressions.{Elements, no_elements, element, spelled}
 use Rattle.typed_syntax.specs.Syntax.{Ex, Pl, Steps, read, here, inner}
@@ -47,6 +47,8 @@ module _ (text : List ℕ) (s : Scope) where
   selected_decided first n (value Int e) = (_, refl)
   selected_decided first n (value Truth e) = (_, refl)
   selected_decided first n (value (Array m t) e) = (_, refl)
+  selected_decided first n (value (Pointer t) e) = (_, refl)
+  selected_decided first n (value (Slice t) e) = (_, refl)
   selected_decided first n (value (Struct k) e) = by (named_field s (Struct k) (spelled text n))
     where
       by : (o : Option Part) → Decided (option_map (part_value e) o) (IsFault (cond (is_some o) None (Some (fault Unknown n.pos))))
@@ -72,6 +74,8 @@ value_decided bracket first m Int x = λ f h. h
 value_decided bracket first m Truth x = (_, refl)
 value_decided bracket first m (Struct k) x = (_, refl)
 value_decided bracket first m (Array n e) x = (_, refl)
+value_decided bracket first m (Pointer e) x = (_, refl)
+value_decided bracket first m (Slice e) x = (_, refl)
 
 step_decided : (bracket first : Pos) (m : ℕ) (i : Operand) → Decided (index_step bracket m i) (IsFault (step_fault first m (Some i)))
 step_decided bracket first m (constant f) = constant_decided first m f.value
@@ -94,14 +98,7 @@ module _ (T : Table) (bracket first : Pos) where
   indexed_decided (constant f) i = (_, refl)
   indexed_decided nil i = (_, refl)
   indexed_decided (value t (read q)) i = place_decided q i (array_parts T t)
-  indexed_decided (value t (typed.constant v)) i = no_place (array_parts T t) i
-  indexed_decided (value t (typed.unary op e)) i = no_place (array_parts T t) i
-  indexed_decided (value t (typed.binary at op x y)) i = no_place (array_parts T t) i
-  indexed_decided (value t (typed.logical_and x y)) i = no_place (array_parts T t) i
-  indexed_decided (value t (typed.logical_or x y)) i = no_place (array_parts T t) i
-  indexed_decided (value t (typed.call g es)) i = no_place (array_parts T t) i
-  indexed_decided (value t (typed.part_of k n e)) i = no_place (array_parts T t) i
-  indexed_decided (value t (typed.literal k es)) i = no_place (array_parts T t) i
+  indexed_decided (value t e) i = no_place (array_parts T t) i
 
 -- ---- array types
 
@@ -191,6 +188,8 @@ module _ (text : List ℕ) (s : Scope) where
     shape_decided Truth es = (fault Unfit first, inl refl)
     shape_decided (Struct k) es = struct_tested k es
     shape_decided (Array n e) es = array_tested n e es
+    shape_decided (Pointer e) es = (fault Unfit first, inl refl)
+    shape_decided (Slice e) es = (fault Unfit first, inl refl)
 
   -- each element has its part, from this number on
   abbrev pub AllParts : ValueType → ℕ → Elements → Type 0
@@ -226,6 +225,8 @@ module _ (text : List ℕ) (s : Scope) where
   pub parts_there : (t : ValueType) (es : Elements) → shape_fits text s t es ≡ true → is_known s.types t ≡ true → AllParts t 0 es
   parts_there Int es fits known = cc fits
   parts_there Truth es fits known = cc fits
+  parts_there (Pointer e) es fits known = cc fits
+  parts_there (Slice e) es fits known = cc fits
   parts_there (Array n e) es fits known =
       let a = both_true (are_plain es) (nat_le (element_count es) n) fits in
       let few : element_count es ≤ n = leb-true (element_count es) n a.1 in

@@ -25,11 +25,4 @@ pub indexed_held : (T : Table) (bracket : Pos) (a i y : Operand) → indexed T b
 indexed_held T bracket (constant f) i y is = absurd (none_some is)
 indexed_held T bracket nil i y is = absurd (none_some is)
 indexed_held T bracket (value t (read q)) i y is = let m = and_then_some (element_of bracket q i) (array_parts T t) y is in element_held bracket q i m.0 y m.2
-indexed_held T bracket (value t (typed.constant v)) i y is = absurd (none_some is)
-indexed_held T bracket (value t (typed.unary op e)) i y is = absurd (none_some is)
-indexed_held T bracket (value t (typed.binary at op x z)) i y is = absurd (none_some is)
-indexed_held T bracket (value t (typed.logical_and x z)) i y is = absurd (none_some is)
-indexed_held T bracket (value t (typed.logical_or x z)) i y is = absurd (none_some is)
-indexed_held T bracket (value t (typed.call g es)) i y is = absurd (none_some is)
-indexed_held T bracket (value t (typed.part_of k n e)) i y is = absurd (none_some is)
-indexed_held T bracket (value t (typed.literal k es)) i y is = absurd (none_some is)
+indexed_held T bracket (value t e) i y is = absurd (none_some is)

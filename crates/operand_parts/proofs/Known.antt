@@ -6,7 +6,7 @@ use Rattle.std.proofs.lemmas.Bool.{lt-ltb}
 use Rattle.std.proofs.lemmas.Option.{get_or_from_slice_get}
 use Rattle.base.specs.declared.ids.TypeId.{TypeId}
 use Rattle.base.specs.declared.value_type.ValueType.{ValueType}
-use Rattle.base.specs.declared.value_type.ValueType.TheVariants.{Int, Bool as Truth, Struct, Array}
+use Rattle.base.specs.declared.value_type.ValueType.TheVariants.{Int, Bool as Truth, Struct, Array, Pointer, Slice}
 use Rattle.typed_syntax.specs.Types.{TypeTree, width}
 use Rattle.typed.specs.Tables.{Table, Holds, fields_of, number_of, type_at}
 use Rattle.typed.specs.Trees.{tree_of, words_of}
@@ -87,6 +87,8 @@ field_there T (Some fields) n l = let x = get_within fields n l in (type_at T x.
 type_there : (T : Table) (t : ValueType) (n : ℕ) → n < part_count T t → (u : ValueType) × (part_type T t n ≡ Some u)
 type_there T Int n l = absurd (omega (arith, l))
 type_there T Truth n l = absurd (omega (arith, l))
+type_there T (Pointer e) n l = absurd (omega (arith, l))
+type_there T (Slice e) n l = absurd (omega (arith, l))
 type_there T (Struct k) n l = field_there T (fields_of T k.0) n l
 type_there T (Array m e) n l = (type_at T e.0, ap (λ b. cond b (Some (type_at T e.0)) None) (lt-ltb n m l))
 

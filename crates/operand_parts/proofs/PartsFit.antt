@@ -6,7 +6,7 @@ use Rattle.std.proofs.lemmas.Bool.{ltb-true}
 use Rattle.base.specs.declared.pos.Pos.{Pos}
 use Rattle.base.specs.declared.ids.TypeId.{TypeId}
 use Rattle.base.specs.declared.value_type.ValueType.{ValueType}
-use Rattle.base.specs.declared.value_type.ValueType.TheVariants.{Int, Bool as Truth, Struct, Array}
+use Rattle.base.specs.declared.value_type.ValueType.TheVariants.{Int, Bool as Truth, Struct, Array, Pointer, Slice}
 use Rattle.syntax.specs.declared.expression.Name.{Name}
 use Rattle.syntax.specs.Expressions.{spelled}
 use Rattle.typed_syntax.specs.Syntax.{Ex, Pl, Steps, Program, read, local, global, here, inner, at_index, site_type, global_type, type_named}
@@ -49,6 +49,8 @@ module _ (p : Program) (scope : List ℕ) where
   pub place_on : (u r : TypeTree) (q : Pl) (more : Steps) → PlFits p scope u q → StepsLead p scope u more r → 0 < width r → PlFits p scope r (place_then q more)
   place_on u r (local site steps) more a b w = (a.0, lead_on (site_type p site) u r steps more a.1 b, w)
   place_on u r (global g steps) more a b w = (a.0, lead_on (global_type p g) u r steps more a.1 b, w)
+  place_on u r (typed.indirect at e n steps) more a b w = absurd a
+  place_on u r (typed.slice_element at e i n steps) more a b w = absurd a
 
 -- ---- arrays
 
@@ -125,14 +127,7 @@ module _ (p : Program) (scope : List ℕ) (T : Table) (formed : IsFormed T) (typ
 
     pub part_fits : (e : Ex) → ExFits p scope (type_tree T t) e → ExFits p scope (type_tree T f.value_type) (part_read f.owner.0 f.number e)
     part_fits (read q) fits = of_place q fits
-    part_fits (typed.constant v) fits = of_value (typed.constant v) fits
-    part_fits (typed.unary op e) fits = of_value (typed.unary op e) fits
-    part_fits (typed.binary at op a b) fits = of_value (typed.binary at op a b) fits
-    part_fits (typed.logical_and a b) fits = of_value (typed.logical_and a b) fits
-    part_fits (typed.logical_or a b) fits = of_value (typed.logical_or a b) fits
-    part_fits (typed.call g es) fits = of_value (typed.call g es) fits
-    part_fits (typed.part_of k n e) fits = of_value (typed.part_of k n e) fits
-    part_fits (typed.literal k es) fits = of_value (typed.literal k es) fits
+    part_fits e fits = of_value e fits
 
   module _ (bracket : Pos) (m : ℕ) (r : TypeTree) (long : 0 < m) where
     number_leads : (z : ℤ) (step : Steps) → number_step m z ≡ Some step → StepsLead p scope (array_of m r) step r
@@ -156,6 +151,8 @@ module _ (p : Program) (scope : List ℕ) (T : Table) (formed : IsFormed T) (typ
     value_leads Truth x step fits is = absurd (none_some is)
     value_leads (Struct k) x step fits is = absurd (none_some is)
     value_leads (Array n e) x step fits is = absurd (none_some is)
+    value_leads (Pointer e) x step fits is = absurd (none_some is)
+    value_leads (Slice e) x step fits is = absurd (none_some is)
 
     -- a step to an element leads there
     index_leads : (i : Operand) (step : Steps) → FitsIfInt p scope i → index_step bracket m i ≡ Some step → StepsLead p scope (array_of m r) step r
@@ -180,6 +177,8 @@ module _ (p : Program) (scope : List ℕ) (T : Table) (formed : IsFormed T) (typ
   pub indexed_fits : (bracket : Pos) (t : ValueType) (q : Pl) → PlFits p scope (type_tree T t) q → (i : Operand) → FitsIfInt p scope i → (y : Operand) → indexed T bracket (value t (read q)) i ≡ Some y → IsFitting p scope T y
   indexed_fits bracket Int q place i fits y is = absurd (none_some is)
   indexed_fits bracket Truth q place i fits y is = absurd (none_some is)
+  indexed_fits bracket (Pointer e) q place i fits y is = absurd (none_some is)
+  indexed_fits bracket (Slice e) q place i fits y is = absurd (none_some is)
   indexed_fits bracket (Struct k) q place i fits y is = absurd (none_some is)
   indexed_fits bracket (Array m e) q place i fits y is = array_fits bracket m e q place i fits y is
 
@@ -189,14 +188,7 @@ module _ (p : Program) (scope : List ℕ) (T : Table) (formed : IsFormed T) (typ
   operand_indexed_fits bracket nil i y whole fits is = absurd (none_some is)
   operand_indexed_fits bracket (value t (read q)) i y whole fits is =
       indexed_fits bracket t q (whole t (read q) refl) i (λ x same. subst (λ v. ExFits p scope v x) (int_tree T formed) (fits Int x same)) y is
-  operand_indexed_fits bracket (value t (typed.constant v)) i y whole fits is = absurd (none_some is)
-  operand_indexed_fits bracket (value t (typed.unary op e)) i y whole fits is = absurd (none_some is)
-  operand_indexed_fits bracket (value t (typed.binary at op a b)) i y whole fits is = absurd (none_some is)
-  operand_indexed_fits bracket (value t (typed.logical_and a b)) i y whole fits is = absurd (none_some is)
-  operand_indexed_fits bracket (value t (typed.logical_or a b)) i y whole fits is = absurd (none_some is)
-  operand_indexed_fits bracket (value t (typed.call g es)) i y whole fits is = absurd (none_some is)
-  operand_indexed_fits bracket (value t (typed.part_of k n e)) i y whole fits is = absurd (none_some is)
-  operand_indexed_fits bracket (value t (typed.literal k es)) i y whole fits is = absurd (none_some is)
+  operand_indexed_fits bracket (value t e) i y whole fits is = absurd (none_some is)
 
 -- a field of a value
 pub selected_fits : (p : Program) (scope : List ℕ) (text : List ℕ) (s : Scope) (formed : IsFormed s.types) (types : p.types ≡ trees s.types) (n : Name) (t : ValueType) (e : Ex)

@@ -7,7 +7,7 @@ use Rattle.base.specs.declared.value_type.ValueType.{ValueType}
 use Rattle.base.specs.declared.value_type.ValueType.TheVariants.{Int, Array}
 use Rattle.syntax.specs.declared.expression.Name.{Name}
 use Rattle.syntax.specs.Expressions.{spelled}
-use Rattle.typed_syntax.specs.Syntax.{Ex, Pl, Steps, read, local, global, here, inner, at_index}
+use Rattle.typed_syntax.specs.Syntax.{Ex, Pl, Steps, read, local, global, indirect, slice_element, here, inner, at_index}
 use Rattle.typed_syntax.specs.Syntax as typed
 use Rattle.typed.specs.Positions.{position}
 use Rattle.typed.specs.Tables.{Table, type_at}
@@ -29,6 +29,8 @@ steps_then (at_index at e n steps) more = at_index at e n (steps_then steps more
 abbrev pub place_then : Pl → Steps → Pl
 place_then (local site steps) more = local site (steps_then steps more)
 place_then (global g steps) more = global g (steps_then steps more)
+place_then (indirect at e n steps) more = indirect at e n (steps_then steps more)
+place_then (slice_element at e i n steps) more = slice_element at e i n (steps_then steps more)
 
 -- ---- fields
 

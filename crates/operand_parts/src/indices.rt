@@ -77,6 +77,14 @@ fn place_with(place: Place, step: Step) -> Result<Place, NoMemory>
             steps.push(step)?;
             Ok(Place::Global(global, steps))
         }
+        Place::Indirect(pos, pointer, target, mut steps) => {
+            steps.push(step)?;
+            Ok(Place::Indirect(pos, pointer, target, steps))
+        }
+        Place::SliceElement(pos, slice, index, element, mut steps) => {
+            steps.push(step)?;
+            Ok(Place::SliceElement(pos, slice, index, element, steps))
+        }
     }
 }
 
@@ -111,9 +119,17 @@ fn element_at(
     match whole {
         Operand::Value(value_type, Expr::Read(place)) => match array_parts(types, value_type) {
             Some(array) => element_of(pos, place, index, array),
-            None => Ok(None),
+            None => {
+                drop(place);
+                drop(index);
+                Ok(None)
+            }
         },
-        _ => Ok(None),
+        whole => {
+            drop(whole);
+            drop(index);
+            Ok(None)
+        }
     }
 }
 

@@ -58,7 +58,11 @@ fn with_last(
             values.push(last)?;
             Ok(Some(values))
         }
-        _ => Ok(None),
+        (values, last) => {
+            drop(values);
+            drop(last);
+            Ok(None)
+        }
     }
 }
 

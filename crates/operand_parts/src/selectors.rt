@@ -30,6 +30,15 @@ fn part_read(alloc: Global, owner: TypeId, number: u32, value: Expr) -> Result<E
             steps.push(Step::Inner(number))?;
             Ok(Expr::Read(Place::Global(global, steps)))
         }
+        Expr::Read(Place::Indirect(pos, pointer, target, mut steps)) => {
+            steps.push(Step::Inner(number))?;
+            Ok(Expr::Read(Place::Indirect(pos, pointer, target, steps)))
+        }
+        Expr::Read(Place::SliceElement(pos, slice, index, element, mut steps)) => {
+            steps.push(Step::Inner(number))?;
+            let place = Place::SliceElement(pos, slice, index, element, steps);
+            Ok(Expr::Read(place))
+        }
         value => Ok(Expr::Part(owner, number, Box::new(alloc, value)?)),
     }
 }

@@ -19,7 +19,7 @@ use Rattle.type_faults.specs.declared.fault.FaultKind.TheVariants.{ConstRange, U
 use Rattle.constants.specs.declared.constant.Constant.{Constant}
 use Rattle.constants.specs.declared.constant.Constant.TheVariants.{Number, Truth}
 use Rattle.base.specs.declared.value_type.ValueType.{ValueType}
-use Rattle.base.specs.declared.value_type.ValueType.TheVariants.{Int, Bool as Boolean, Struct, Array}
+use Rattle.base.specs.declared.value_type.ValueType.TheVariants.{Int, Bool as Boolean, Struct, Array, Pointer, Slice}
 use Rattle.constants.specs.Constants.{constant_type, is_int, is_held, is_zero, is_negative}
 use Rattle.type_faults.specs.Given.{allowed, both}
 use Rattle.type_faults.specs.Faults.{fault, IsFault}
@@ -129,10 +129,14 @@ no_prefix Star Int is = refl
 no_prefix Star Boolean is = refl
 no_prefix Star (Struct k) is = refl
 no_prefix Star (Array n e) is = refl
+no_prefix Star (Pointer e) is = refl
+no_prefix Star (Slice e) is = refl
 no_prefix Address Int is = refl
 no_prefix Address Boolean is = refl
 no_prefix Address (Struct k) is = refl
 no_prefix Address (Array n e) is = refl
+no_prefix Address (Pointer e) is = refl
+no_prefix Address (Slice e) is = refl
 
 pub prefix_decided : (at : Pos) (op : UnOp) (x : Operand) → Decided (prefixed op x) (IsFault (prefix_fault at op (Some x)))
 prefix_decided at op (value t x) = value_prefix_decided (fault Unfit at) (takes_one op t) (prefix_of op) t x (no_prefix op t)

@@ -12,7 +12,7 @@ use Rattle.constants.specs.declared.constant.Constant.{Constant}
 use Rattle.constants.specs.declared.constant.Constant.TheVariants.{Number, Truth}
 use Rattle.constants.specs.declared.constant.Fixed.{Fixed}
 use Rattle.base.specs.declared.value_type.ValueType.{ValueType}
-use Rattle.base.specs.declared.value_type.ValueType.TheVariants.{Int, Bool as Boolean, Struct, Array}
+use Rattle.base.specs.declared.value_type.ValueType.TheVariants.{Int, Bool as Boolean, Struct, Array, Pointer, Slice}
 use Rattle.constants.specs.Constants.{constant_type, is_held}
 use Rattle.type_faults.specs.Given.{allowed}
 use Rattle.type_faults.proofs.Options.{none_some, same_some}
@@ -37,6 +37,8 @@ held_type (Some Int) (Truth b) is = cc is
 held_type (Some Boolean) (Number z) is = cc is
 held_type (Some (Struct k)) c is = cc is
 held_type (Some (Array n e)) c is = cc is
+held_type (Some (Pointer e)) c is = cc is
+held_type (Some (Slice e)) c is = cc is
 
 module _ (P : Operand → Type 0) (known : (f : Fixed) → is_held f.value_type f.value ≡ true → P (constant f)) where
   of_type_is : (t : Option ValueType) (c : Constant) (x : Operand) → of_type t c ≡ Some x → P x

@@ -20,7 +20,7 @@ use Rattle.typed_syntax.specs.Syntax as typed
 use Rattle.constants.specs.declared.constant.Constant.{Constant}
 use Rattle.constants.specs.declared.constant.Fixed.{Fixed}
 use Rattle.base.specs.declared.value_type.ValueType.{ValueType}
-use Rattle.base.specs.declared.value_type.ValueType.TheVariants.{Int, Bool as Boolean}
+use Rattle.base.specs.declared.value_type.ValueType.TheVariants.{Int, Bool as Boolean, Slice}
 use Rattle.base.specs.Types.{same_type}
 use Rattle.type_faults.specs.Given.{allowed}
 use Rattle.constants.specs.Constants.{constant_type, is_held, is_zero, is_negative}
@@ -57,11 +57,16 @@ prefix_of Complement = Some prefix.Complement
 prefix_of Not = Some prefix.Not
 prefix_of other = None
 
+-- values of one type can be compared, but no two slices
+abbrev pub are_comparable : ValueType → ValueType → Bool
+are_comparable (Slice e) t = false
+are_comparable s t = same_type s t
+
 -- the types of operands that an operator takes
 abbrev pub takes : BinOp → ValueType → ValueType → Bool
 takes (Arithmetic op) Int Int = true
-takes (Compare compare.Equal) s t = same_type s t
-takes (Compare compare.NotEqual) s t = same_type s t
+takes (Compare compare.Equal) s t = are_comparable s t
+takes (Compare compare.NotEqual) s t = are_comparable s t
 takes (Compare op) Int Int = true
 takes LogicalAnd Boolean Boolean = true
 takes LogicalOr Boolean Boolean = true

@@ -7,7 +7,7 @@ ghost use Rattle.std.specs.Option.{option_map};
 ghost use Rattle.typed.specs.View.{ex_of};
 ghost use Rattle.type_faults.specs.Given.{both};
 ghost use Rattle.operators.specs.Operands.{as_value};
-ghost use Rattle.operators.specs.Operators.{takes, takes_both, result_type, is_division, is_shift, stands_right, right_allowed, arithmetic_of, compare_of, typed_pair, both_values, value_pair, either_type, joint_type, converts, worked_out, constant_pair, combined};
+ghost use Rattle.operators.specs.Operators.{are_comparable, takes, takes_both, result_type, is_division, is_shift, stands_right, right_allowed, arithmetic_of, compare_of, typed_pair, both_values, value_pair, either_type, joint_type, converts, worked_out, constant_pair, combined};
 ghost use Rattle.operators.specs.Faults.{are_alike, unfit_kind, right_fault, conversion_fault, constants_fault, fitting_fault, two_fault, pair_fault};
 ghost use Rattle.operators.specs.Passing.{operand_of};
 
@@ -21,13 +21,20 @@ use syntax::{ArithmeticOp, BinOp, CompareOp};
 use type_faults::{Fault, FaultKind};
 use typed::Expr;
 
+/// Whether values of two types can be compared: these are one, and no two slices can be.
+fn are_comparable(left: ValueType, right: ValueType) -> bool
+    ensures { result ≡ are_comparable left right }
+{
+    !matches!(left, ValueType::Slice(_)) && same_type(left, right)
+}
+
 /// Whether an operator takes operands of two types.
 fn takes(op: BinOp, left: ValueType, right: ValueType) -> bool
     ensures { result ≡ takes op left right }
 {
     match (op, left, right) {
         (BinOp::Compare(CompareOp::Equal | CompareOp::NotEqual), left, right) => {
-            same_type(left, right)
+            are_comparable(left, right)
         }
         (BinOp::Arithmetic(_) | BinOp::Compare(_), ValueType::Int, ValueType::Int) => true,
         (BinOp::LogicalAnd | BinOp::LogicalOr, ValueType::Bool, ValueType::Bool) => true,

@@ -5,7 +5,7 @@ use Rattle.std.specs.Prelude.{is_some, ◌==◌, ◌&&◌, ◌||◌}
 use Rattle.std.specs.Option.{option_map}
 use Rattle.base.specs.declared.pos.Pos.{Pos}
 use Rattle.base.specs.declared.value_type.ValueType.{ValueType}
-use Rattle.base.specs.declared.value_type.ValueType.TheVariants.{Int, Bool as Boolean, Struct, Array}
+use Rattle.base.specs.declared.value_type.ValueType.TheVariants.{Int, Bool as Boolean, Struct, Array, Pointer, Slice}
 use Rattle.syntax.specs.declared.expression.Name.{Name}
 use Rattle.syntax.specs.Expressions.{Elements as TreeElements, no_elements, element, spelled}
 use Rattle.type_faults.specs.declared.fault.Fault.{Fault}
@@ -34,6 +34,8 @@ module _ (text : List ℕ) (s : Scope) (cs ds : List (Option Known)) where
   field_same Boolean name = refl
   field_same (Struct k) name = refl
   field_same (Array n e) name = refl
+  field_same (Pointer e) name = refl
+  field_same (Slice e) name = refl
 
   pub select_same : (n : Name) (x : Operand) → selected text (holding s cs) n x ≡ selected text (holding s ds) n x
   select_same n (constant f) = refl
@@ -46,6 +48,8 @@ module _ (text : List ℕ) (s : Scope) (cs ds : List (Option Known)) where
   select_fault_same at n (value Boolean e) = refl
   select_fault_same at n (value (Struct k) e) = refl
   select_fault_same at n (value (Array m t) e) = refl
+  select_fault_same at n (value (Pointer t) e) = refl
+  select_fault_same at n (value (Slice t) e) = refl
   select_fault_same at n nil = refl
 
   pub selector_fault_same : (at : Pos) (n : Name) (o : Option Operand) → selector_fault text (holding s cs) at n o ≡ selector_fault text (holding s ds) at n o
@@ -72,6 +76,8 @@ module _ (text : List ℕ) (s : Scope) (cs ds : List (Option Known)) where
   shape_same Boolean es = refl
   shape_same (Struct k) es = ap (λ (b : Bool). (are_keyed es && b) || (are_plain es && (element_count es == part_count s.types (Struct k)))) (keys_same (Struct k) ([] ∷ []) es)
   shape_same (Array n e) es = refl
+  shape_same (Pointer e) es = refl
+  shape_same (Slice e) es = refl
 
   pub literal_same : (t : Option ValueType) (es : TreeElements) (qs : List Placed) → literal_given text (holding s cs) t es qs ≡ literal_given text (holding s ds) t es qs
   literal_same None es qs = refl
@@ -89,6 +95,8 @@ module _ (text : List ℕ) (s : Scope) (cs ds : List (Option Known)) where
   struct_keys_back Boolean es f h = h
   struct_keys_back (Struct k) es f h = keys_back (Struct k) ([] ∷ []) es f h
   struct_keys_back (Array n e) es f h = h
+  struct_keys_back (Pointer e) es f h = h
+  struct_keys_back (Slice e) es f h = h
 
   pub shape_back : (first : Pos) (t : Option ValueType) (es : TreeElements) (f : Fault) → ShapeFails text (holding s ds) first t es f → ShapeFails text (holding s cs) first t es f
   shape_back first None es f h = h

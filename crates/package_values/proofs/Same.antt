@@ -35,7 +35,7 @@ use Rattle.package_values.proofs.Holding.{holding, select_same, selector_fault_s
 use Rattle.package_values.proofs.Literals.{placed_alike}
 use Rattle.operand_calls.specs.Calls.{has_call}
 use Rattle.operand_calls.proofs.Alike.{call_pos_alike}
-use Rattle.base.specs.declared.value_type.ValueType.TheVariants.{Int, Bool as Boolean, Struct, Array}
+use Rattle.base.specs.declared.value_type.ValueType.TheVariants.{Int, Bool as Boolean, Struct, Array, Pointer, Slice}
 use Rattle.type_faults.specs.declared.fault.FaultKind.TheVariants.{OutOfProfile}
 
 -- rules that give the same of each
@@ -216,6 +216,8 @@ module _ (text : List ℕ) (s : Scope) (cs ds : List (Option Known)) where
   inner_same e (Some (value Int x)) = refl
   inner_same e (Some (value Boolean x)) = refl
   inner_same e (Some (value (Struct k) x)) = refl
+  inner_same e (Some (value (Pointer t) x)) = refl
+  inner_same e (Some (value (Slice t) x)) = refl
   inner_same e (Some (value (Array n t) x)) =
       ap (λ at. cond (has_call x) (Some (fault OutOfProfile at)) None) (call_pos_alike text (holding s cs) (holding s ds) (λ word. refl) e)
 

@@ -20,7 +20,7 @@ use Rattle.typed_syntax.specs.Syntax.{Exs, Left, Pl, St, Program, read, none, mo
 use Rattle.typed_syntax.specs.Form.{IsArithmetic, IsStep, PlFits, LeftsFit, new_sites, births, scope_behind, scope_after, ExFits, ExsFit, PieceFits, PiecesFit, ReturnFits, StFits}
 use Rattle.typed_syntax.specs.Types.{TypeTree, ints, bools}
 use Rattle.base.specs.declared.value_type.ValueType.{ValueType}
-use Rattle.base.specs.declared.value_type.ValueType.TheVariants.{Int, Bool as Truth, Struct, Array}
+use Rattle.base.specs.declared.value_type.ValueType.TheVariants.{Int, Bool as Truth, Struct, Array, Pointer, Slice}
 use Rattle.typed.specs.Tables.{Table}
 use Rattle.typed.specs.Formed.{IsFormed}
 use Rattle.type_faults.specs.Given.{both}
@@ -353,6 +353,8 @@ module _ (T : Table) (text : List ℕ) (p : Program) (all : List Site) (has : Ha
           by Truth l found is1 = absurd (none_some is1)
           by (Struct k) l found is1 = absurd (none_some is1)
           by (Array n u) l found is1 = absurd (none_some is1)
+          by (Pointer u) l found is1 = absurd (none_some is1)
+          by (Slice u) l found is1 = absurd (none_some is1)
           by Int l found is1 = subst (λ (y : St). Still looped scope y) (same_some is1) (refl, λ m n. (steps, subst (λ (x : TypeTree). PlFits p scope x l) (int_tree T formed) (own_fits e Int l found)), refl)
 
       call_still : (e : TreeEx) (t : St) → Within p all (with_strings s (strings_in (gives text s e))) → option_and_then (expressed (length s.strings)) (gives text s e) ≡ Some t → Still looped scope t

@@ -5,12 +5,14 @@ ghost use Rattle.std.specs.Option.{option_map};
 ghost use Rattle.syntax.specs.declared.operator.BinOp.TheVariants.{Arithmetic as ArithmeticOf};
 ghost use Rattle.syntax.specs.Expressions.{ex_of as tree_of, exs_of as trees_of};
 ghost use Rattle.syntax.specs.FirstBytes.{first_pos};
-ghost use Rattle.typed.specs.View.{st_of};
+ghost use Rattle.typed.specs.View.{ex_of, st_of};
 ghost use Rattle.typed.specs.Positions.{position};
 ghost use Rattle.type_faults.specs.Least.{IsLeast};
 ghost use Rattle.type_faults.specs.Given.{both};
 ghost use Rattle.type_faults.specs.Faults.{fault as fault_at, IsFault};
 ghost use Rattle.type_faults.specs.declared.fault.FaultKind.TheVariants.{WrongCount as WrongNumber};
+ghost use Rattle.base.specs.declared.value_type.ValueType.TheVariants.{Int as IntType};
+ghost use Rattle.operators.specs.Operands.{value};
 ghost use Rattle.operators.specs.Operators.{combined};
 ghost use Rattle.operators.specs.Faults.{pair_fault};
 ghost use Rattle.operators.specs.Passing.{operand_of};
@@ -209,15 +211,29 @@ pub fn check_update(
     }
 }
 
+/// `++` or `--` on a value that is an int, where it is read from a place.
+fn stepped_int(pos: Pos, op: BinOp, e: typed::Expr) -> Option<typed::Stmt>
+    ensures { option_map st_of result ≡ stepped (position pos) op (value IntType (ex_of e)) }
+{
+    match e {
+        typed::Expr::Read(place) => Some(typed::Stmt::Bump(pos, place, op)),
+        other => {
+            drop(other);
+            None
+        }
+    }
+}
+
 /// `++` or `--` on a variable, which is an int.
 fn stepped(pos: Pos, op: BinOp, operand: Option<Operand>) -> Option<typed::Stmt>
     ensures { option_map st_of result ≡ option_and_then (stepped (position pos) op) (option_map operand_of operand) }
 {
     match operand {
-        Some(Operand::Value(ValueType::Int, typed::Expr::Read(place))) => {
-            Some(typed::Stmt::Bump(pos, place, op))
+        Some(Operand::Value(ValueType::Int, e)) => stepped_int(pos, op, e),
+        other => {
+            drop(other);
+            None
         }
-        _ => None,
     }
 }
 

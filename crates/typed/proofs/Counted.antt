@@ -6,7 +6,7 @@ use Rattle.base.specs.declared.ids.TypeId.{TypeId}
 use Rattle.typed.specs.declared.told.Told.{Told}
 use Rattle.base.specs.declared.ids.StructId.{StructId}
 use Rattle.base.specs.declared.value_type.ValueType.{ValueType}
-use Rattle.base.specs.declared.value_type.ValueType.TheVariants.{Int, Bool as Truth, Struct, Array}
+use Rattle.base.specs.declared.value_type.ValueType.TheVariants.{Int, Bool as Truth, Struct, Array, Pointer, Slice}
 use Rattle.typed.specs.Tables.{Table, fields_of}
 use Rattle.typed.specs.Words.{allowed, within_limit}
 use Rattle.typed.specs.Trees.{parts_by, tree_of, words_of}
@@ -86,6 +86,8 @@ module _ (types : List ValueType) (told : List (Option Told)) (words : List (Opt
   words_kept Int = sym (ap (λ o. allowed (option_map width o)) (made (table_of types told) formed Int))
   words_kept Truth = sym (ap (λ o. allowed (option_map width o)) (made (table_of types told) formed Truth))
   words_kept (Struct s) = struct_kept s ∙ struct_allowed s
+  words_kept (Pointer e) = sym (ap (λ o. allowed (option_map width o)) (made (table_of types told) formed (Pointer e)))
+  words_kept (Slice e) = sym (ap (λ o. allowed (option_map width o)) (made (table_of types told) formed (Slice e)))
   words_kept (Array n e) =
       ap (option_and_then (λ w. within_limit (n * w))) (kept_at e.0) ∙ then_map n (words_at (table_of types told) e.0) ∙ ap allowed (sym (array_words (table_of types told) formed n e))
 
@@ -94,4 +96,6 @@ module _ (types : List ValueType) (told : List (Option Told)) (words : List (Opt
   least_kept Int = sym (ap (λ o. unwrap_or (option_map width o) 1) (made (table_of types told) formed Int))
   least_kept Truth = sym (ap (λ o. unwrap_or (option_map width o) 1) (made (table_of types told) formed Truth))
   least_kept (Struct s) = ap (λ o. unwrap_or o 1) (struct_kept s)
+  least_kept (Pointer e) = sym (ap (λ o. unwrap_or (option_map width o) 1) (made (table_of types told) formed (Pointer e)))
+  least_kept (Slice e) = sym (ap (λ o. unwrap_or (option_map width o) 1) (made (table_of types told) formed (Slice e)))
   least_kept (Array n e) = ap (λ o. n * unwrap_or o 1) (kept_at e.0)

@@ -7,7 +7,7 @@ use Rattle.typed_syntax.specs.Types.{TypeTree, PartTypes, struct_of, array_of, m
 use Rattle.base.specs.declared.ids.TypeId.{TypeId}
 use Rattle.base.specs.declared.ids.StructId.{StructId}
 use Rattle.base.specs.declared.value_type.ValueType.{ValueType}
-use Rattle.base.specs.declared.value_type.ValueType.TheVariants.{Int, Bool as Truth, Struct, Array}
+use Rattle.base.specs.declared.value_type.ValueType.TheVariants.{Int, Bool as Truth, Struct, Array, Pointer, Slice}
 use Rattle.typed.specs.Tables.{Table, Holds, fields_of, number_of, with_type, told}
 use Rattle.typed.specs.Words.{IsInLimits, refusal_by}
 use Rattle.typed.specs.Trees.{part_by, more_by, parts_by, tree_by, tree_within, tree_of, words_of, depth_of}
@@ -80,6 +80,8 @@ module _ (T : Table) (formed : IsFormed T) (t : ValueType) where
   stands_placed i Int h = tt
   stands_placed i Truth h = tt
   stands_placed i (Struct s) h = tt
+  stands_placed i (Pointer e) h = let q = formed.placed i (Pointer e) h in let l = slice_get_within T.types i (Pointer e) h in omega arith
+  stands_placed i (Slice e) h = let q = formed.placed i (Slice e) h in let l = slice_get_within T.types i (Slice e) h in omega arith
   stands_placed i (Array n e) h = let p = formed.placed i (Array n e) h in let q = p.0 in let l = slice_get_within T.types i (Array n e) h in omega arith
 
   -- parts of the table are the same in the longer one
@@ -103,6 +105,8 @@ module _ (T : Table) (formed : IsFormed T) (t : ValueType) where
     tree_entered Int l = refl
     tree_entered Truth l = refl
     tree_entered (Struct s) l = struct_entered s
+    tree_entered (Pointer e) l = refl
+    tree_entered (Slice e) l = refl
     tree_entered (Array n e) l = ap (option_map (array_of n)) (part_entered e.0 l)
 
   within_entered : (k : ℕ) (u : ValueType) → Stands T u → tree_within (entered T t) k u ≡ tree_within T k u
@@ -152,6 +156,8 @@ module _ (T : Table) (formed : IsFormed T) (t : ValueType) (l : Stands T t) (fin
   placed_next Int e = tt
   placed_next Truth e = tt
   placed_next (Struct s) e = tt
+  placed_next (Pointer a) e = subst (Stands T) e l
+  placed_next (Slice a) e = subst (Stands T) e l
   placed_next (Array n a) e =
       let k : a.0 < length T.types = subst (Stands T) e l in
       let f : refusal T (Array n a) ≡ None = subst (λ u. refusal T u ≡ None) e fine in
@@ -161,6 +167,8 @@ module _ (T : Table) (formed : IsFormed T) (t : ValueType) (l : Stands T t) (fin
   words_fine Int w e p = some_by (words_of T Int) w p (subst (λ u. refusal T u ≡ None) e fine)
   words_fine Truth w e p = some_by (words_of T Truth) w p (subst (λ u. refusal T u ≡ None) e fine)
   words_fine (Struct s) w e p = some_by (words_of T (Struct s)) w p (subst (λ u. refusal T u ≡ None) e fine)
+  words_fine (Pointer a) w e p = some_by (words_of T (Pointer a)) w p (subst (λ u. refusal T u ≡ None) e fine)
+  words_fine (Slice a) w e p = some_by (words_of T (Slice a)) w p (subst (λ u. refusal T u ≡ None) e fine)
   words_fine (Array n a) w e p = product_by n (words_at T a.0) w (sym (array_words T formed n a) ∙ p) (subst (λ u. refusal T u ≡ None) e fine)
 
   module _ (none : number_of T t ≡ None) (room : length T.types < 2 ^ 32) where

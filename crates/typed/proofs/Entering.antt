@@ -9,7 +9,7 @@ use Rattle.indexmap.specs.IndexSet.{insert_key}
 use Rattle.typed.specs.declared.told.Told.{Told}
 use Rattle.base.specs.declared.ids.StructId.{StructId}
 use Rattle.base.specs.declared.value_type.ValueType.{ValueType}
-use Rattle.base.specs.declared.value_type.ValueType.TheVariants.{Int, Bool as Truth, Struct, Array}
+use Rattle.base.specs.declared.value_type.ValueType.TheVariants.{Int, Bool as Truth, Struct, Array, Pointer, Slice}
 use Rattle.base.specs.Types.{same_type}
 use Rattle.base.proofs.Types.{same_is}
 use Rattle.typed.specs.Tables.{Table, Holds, number_of, with_type}
@@ -37,6 +37,8 @@ pub held_fine : (T : Table) → IsFormed T → (i : ℕ) (t : ValueType) → Hol
 held_fine T formed i Int h = least_fine (words_of T Int) (λ w e. formed.types i Int w h e)
 held_fine T formed i Truth h = least_fine (words_of T Truth) (λ w e. formed.types i Truth w h e)
 held_fine T formed i (Struct s) h = least_fine (words_of T (Struct s)) (λ w e. formed.types i (Struct s) w h e)
+held_fine T formed i (Pointer a) h = least_fine (words_of T (Pointer a)) (λ w e. formed.types i (Pointer a) w h e)
+held_fine T formed i (Slice a) h = least_fine (words_of T (Slice a)) (λ w e. formed.types i (Slice a) w h e)
 held_fine T formed i (Array n a) h =
     product_fine n (words_at T a.0) (formed.placed i (Array n a) h).1 (λ w e. formed.types i (Array n a) w h (array_words T formed n a ∙ e))
 

@@ -4,7 +4,7 @@ use Rattle.std.specs.Option.{option_map, option_and_then}
 use Rattle.typed_syntax.specs.Types.{TypeTree, PartTypes, struct_of, array_of}
 use Rattle.base.specs.declared.ids.TypeId.{TypeId}
 use Rattle.base.specs.declared.value_type.ValueType.{ValueType}
-use Rattle.base.specs.declared.value_type.ValueType.TheVariants.{Int, Bool as Truth, Struct, Array}
+use Rattle.base.specs.declared.value_type.ValueType.TheVariants.{Int, Bool as Truth, Struct, Array, Pointer, Slice}
 use Rattle.typed.specs.Tables.{Table, fields_of}
 use Rattle.typed.specs.Trees.{part_by, more_by, parts_by, tree_by, tree_within, tree_of, depth_of}
 use Rattle.typed.specs.Formed.{KeepsTrees}
@@ -44,6 +44,8 @@ module _ (T U : Table) (g : Grows T U) (f h : ValueType → Option TypeTree) (st
   tree_grows (Struct s) x p =
       then_grows (fields_of T s.0) (fields_of U s.0) (λ fs. option_map struct_of (parts_by T f fs)) (λ fs. option_map struct_of (parts_by U h fs)) x (g.fields s.0)
       (λ fs. map_grows (parts_by T f fs) (parts_by U h fs) struct_of x (parts_grow fs)) p
+  tree_grows (Pointer e) x p = p
+  tree_grows (Slice e) x p = p
   tree_grows (Array n e) x p = map_grows (part_by T f e.0) (part_by U h e.0) (array_of n) x (part_grows e.0) p
 
 pub within_grows : (T U : Table) → Grows T U → (c d : ℕ) → c ≤ d → (t : ValueType) (x : TypeTree) → tree_within T c t ≡ Some x → tree_within U d t ≡ Some x

@@ -6,7 +6,7 @@ use Rattle.typed_syntax.specs.Types.{TypeTree, struct_of, array_of}
 use Rattle.base.specs.declared.ids.TypeId.{TypeId}
 use Rattle.base.specs.declared.ids.StructId.{StructId}
 use Rattle.base.specs.declared.value_type.ValueType.{ValueType}
-use Rattle.base.specs.declared.value_type.ValueType.TheVariants.{Int, Bool as Truth, Struct, Array}
+use Rattle.base.specs.declared.value_type.ValueType.TheVariants.{Int, Bool as Truth, Struct, Array, Pointer, Slice}
 use Rattle.typed.specs.Tables.{Table, Holds, fields_of, told}
 use Rattle.typed.specs.Trees.{part_by, parts_by, tree_within, tree_of, depth_of}
 use Rattle.typed.specs.Formed.{IsFormed, IsPlaced, TreesAreMade}
@@ -36,12 +36,16 @@ behind_placed T i j Int p l = tt
 behind_placed T i j Truth p l = tt
 behind_placed T i j (Struct s) p l = tt
 behind_placed T i j (Array n e) p l = λ t h. let k = p.0 in omega arith
+behind_placed T i j (Pointer e) p l = tt
+behind_placed T i j (Slice e) p l = tt
 
 pub behind_all : (T : Table) (t : ValueType) → IsBehind T (length T.types) t
 behind_all T Int = tt
 behind_all T Truth = tt
 behind_all T (Struct s) = tt
 behind_all T (Array n e) = λ t h. slice_get_within T.types e.0 t h
+behind_all T (Pointer e) = tt
+behind_all T (Slice e) = tt
 
 -- what is needed of a table for that
 pub record IsDeep (T : Table) : Type 0 where
@@ -70,6 +74,8 @@ module _ (T : Table) (formed : IsDeep T) where
   fixed i k d Int b lk ld = refl
   fixed i k d Truth b lk ld = refl
   fixed i k d (Struct s) b lk ld = struct_fixed k d s (omega arith) (omega arith)
+  fixed i k d (Pointer e) b lk ld = refl
+  fixed i k d (Slice e) b lk ld = refl
   fixed zero k d (Array n e) b lk ld = array_fixed k d n e (λ t h. let l : e.0 < 0 = b t h in absurd (omega arith))
   fixed (suc i) zero d (Array n e) b lk ld = absurd (omega arith)
   fixed (suc i) (suc k) zero (Array n e) b lk ld = absurd (omega arith)

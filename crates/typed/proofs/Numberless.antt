@@ -7,7 +7,7 @@ use Rattle.typed_syntax.specs.Types.{width}
 use Rattle.base.specs.declared.ids.TypeId.{TypeId}
 use Rattle.base.specs.declared.ids.StructId.{StructId}
 use Rattle.base.specs.declared.value_type.ValueType.{ValueType}
-use Rattle.base.specs.declared.value_type.ValueType.TheVariants.{Int, Bool as Truth, Struct, Array}
+use Rattle.base.specs.declared.value_type.ValueType.TheVariants.{Int, Bool as Truth, Struct, Array, Pointer, Slice}
 use Rattle.typed.specs.declared.told.Told.{Told}
 use Rattle.typed.specs.Tables.{Table, Holds, number_of, with_fields}
 use Rattle.typed.specs.Words.{is_over}
@@ -42,6 +42,8 @@ module _ (T : Table) (formed : IsFormed T) (s : StructId) (untold : IsUntold T s
   words_same (suc m) i Int l h = ap (option_map width) (made_now T (deep T formed) s.0 untold fields have Int) ∙ sym (ap (option_map width) (made T formed Int))
   words_same (suc m) i Truth l h = ap (option_map width) (made_now T (deep T formed) s.0 untold fields have Truth) ∙ sym (ap (option_map width) (made T formed Truth))
   words_same (suc m) i (Struct r) l h = other_words T (deep T formed) s.0 untold fields have r (is_another r i h)
+  words_same (suc m) i (Pointer a) l h = ap (option_map width) (made_now T (deep T formed) s.0 untold fields have (Pointer a)) ∙ sym (ap (option_map width) (made T formed (Pointer a)))
+  words_same (suc m) i (Slice a) l h = ap (option_map width) (made_now T (deep T formed) s.0 untold fields have (Slice a)) ∙ sym (ap (option_map width) (made T formed (Slice a)))
   words_same (suc m) i (Array n a) l h =
       let q = formed.placed i (Array n a) h in
       let b = slice_get_within T.types i (Array n a) h in

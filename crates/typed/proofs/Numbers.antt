@@ -8,7 +8,7 @@ use Rattle.std.proofs.lemmas.List.Quantifiers.{position-Some}
 use Rattle.std.proofs.Math.ListN.{get_or-append}
 use Rattle.std.proofs.Math.Seq.{get_or-append_seam}
 use Rattle.base.specs.declared.value_type.ValueType.{ValueType}
-use Rattle.base.specs.declared.value_type.ValueType.TheVariants.{Int, Bool as Truth, Struct, Array}
+use Rattle.base.specs.declared.value_type.ValueType.TheVariants.{Int, Bool as Truth, Struct, Array, Pointer, Slice}
 use Rattle.base.specs.contracts.value_type.ValueTypePartialEq.TheImpl.{eq-value}
 use Rattle.base.specs.Types.{same_type}
 use Rattle.base.proofs.Types.{same_is, same_self}
@@ -58,18 +58,38 @@ derived_same Int Int = refl
 derived_same Int Truth = refl
 derived_same Int (Struct r) = refl
 derived_same Int (Array m f) = refl
+derived_same Int (Pointer f) = refl
+derived_same Int (Slice f) = refl
 derived_same Truth Int = refl
 derived_same Truth Truth = refl
 derived_same Truth (Struct r) = refl
 derived_same Truth (Array m f) = refl
+derived_same Truth (Pointer f) = refl
+derived_same Truth (Slice f) = refl
 derived_same (Struct s) Int = refl
 derived_same (Struct s) Truth = refl
 derived_same (Struct s) (Struct r) = refl
 derived_same (Struct s) (Array m f) = refl
+derived_same (Struct s) (Pointer f) = refl
+derived_same (Struct s) (Slice f) = refl
 derived_same (Array n e) Int = refl
 derived_same (Array n e) Truth = refl
 derived_same (Array n e) (Struct r) = refl
 derived_same (Array n e) (Array m f) = refl
+derived_same (Array n e) (Pointer f) = refl
+derived_same (Array n e) (Slice f) = refl
+derived_same (Pointer e) Int = refl
+derived_same (Pointer e) Truth = refl
+derived_same (Pointer e) (Struct r) = refl
+derived_same (Pointer e) (Array m f) = refl
+derived_same (Pointer e) (Pointer f) = refl
+derived_same (Pointer e) (Slice f) = refl
+derived_same (Slice e) Int = refl
+derived_same (Slice e) Truth = refl
+derived_same (Slice e) (Struct r) = refl
+derived_same (Slice e) (Array m f) = refl
+derived_same (Slice e) (Pointer f) = refl
+derived_same (Slice e) (Slice f) = refl
 
 pub equal_same : eq-value.it ≡ same_type
 equal_same = λ j t u. derived_same t u j

@@ -5,7 +5,7 @@ use Rattle.std.proofs.lemmas.Option.{slice_get-get_or}
 use Rattle.typed_syntax.specs.Types.{width}
 use Rattle.base.specs.declared.ids.TypeId.{TypeId}
 use Rattle.base.specs.declared.value_type.ValueType.{ValueType}
-use Rattle.base.specs.declared.value_type.ValueType.TheVariants.{Int, Bool as Truth, Struct, Array}
+use Rattle.base.specs.declared.value_type.ValueType.TheVariants.{Int, Bool as Truth, Struct, Array, Pointer, Slice}
 use Rattle.typed.specs.declared.told.Told.{Told}
 use Rattle.typed.specs.Tables.{Table, Holds}
 use Rattle.typed.specs.Words.{within_limit, known}
@@ -33,6 +33,8 @@ module _ (types : List ValueType) (told : List (Option Told)) (formed : IsFormed
   same_words before Truth h = refl
   same_words before (Struct s) h = refl
   same_words before (Array n e) h = ap (option_and_then (λ w. within_limit (n * w))) (h n e refl)
+  same_words before (Pointer e) h = refl
+  same_words before (Slice e) h = refl
 
   words_next : (before : List (Option ℕ)) (i : ℕ) → i < length types → before ≡ map (words_of T) (take i types) → words_by before told (get_or types i Int) ≡ words_of T (get_or types i Int)
   words_next before i l is =

@@ -3,11 +3,11 @@ use Rattle.std.proofs.Common.{◌≡◌, ◌⊎◌, inl, inr, ℕ, zero, suc, �
 use Rattle.std.specs.Bool.{then_some}
 use Rattle.std.specs.Option.{unwrap_or, option_map, option_copied, option_and_then}
 use Rattle.std.proofs.lemmas.Bool.{ltb-true, ltb-false}
-use Rattle.typed_syntax.specs.Types.{TypeTree, PartTypes, ints, bools, array_of, no_types, width, repeated, nth_type, widths_before, part_type, part_offset}
+use Rattle.typed_syntax.specs.Types.{TypeTree, PartTypes, ints, bools, array_of, pointer_to, slice_of, no_types, width, repeated, nth_type, widths_before, part_type, part_offset}
 use Rattle.base.specs.declared.ids.TypeId.{TypeId}
 use Rattle.base.specs.declared.ids.StructId.{StructId}
 use Rattle.base.specs.declared.value_type.ValueType.{ValueType}
-use Rattle.base.specs.declared.value_type.ValueType.TheVariants.{Int, Bool as Truth, Struct, Array}
+use Rattle.base.specs.declared.value_type.ValueType.TheVariants.{Int, Bool as Truth, Struct, Array, Pointer, Slice}
 use Rattle.typed.specs.Tables.{Table, Holds, type_at, fields_of}
 use Rattle.typed.specs.Trees.{parts_by, tree_of, trees, tree_named, offset_in}
 use Rattle.typed.specs.Formed.{IsFormed, tree_at, words_at}
@@ -131,6 +131,17 @@ module _ (T : Table) (formed : IsFormed T) where
 
     pub basic_before : (t : ValueType) → (t ≡ Int) ⊎ (t ≡ Truth) → t ≡ type_at T i → 0 ≡ part_offset (tree_named T i) j
     basic_before = no_part (λ t. 0 ≡ part_offset t j) refl refl
+
+    -- nor have pointers and slices
+    leads_on : (P : TypeTree → Type 0) → ((n : ℕ) → P (pointer_to n)) → ((n : ℕ) → P (slice_of n)) → (t : ValueType) → ((e : TypeId) × (t ≡ Pointer e)) ⊎ ((e : TypeId) × (t ≡ Slice e)) → t ≡ type_at T i → P (tree_named T i)
+    leads_on P a b t (inl p) is = subst P (sym (named_as (Pointer p.0) (sym p.1 ∙ is) ∙ ap or_ints (made T formed (Pointer p.0)))) (a p.0.0)
+    leads_on P a b t (inr p) is = subst P (sym (named_as (Slice p.0) (sym p.1 ∙ is) ∙ ap or_ints (made T formed (Slice p.0)))) (b p.0.0)
+
+    pub leading_part : (t : ValueType) → ((e : TypeId) × (t ≡ Pointer e)) ⊎ ((e : TypeId) × (t ≡ Slice e)) → t ≡ type_at T i → part_type (tree_named T i) j ≡ ints
+    leading_part = leads_on (λ t. part_type t j ≡ ints) (λ n. refl) (λ n. refl)
+
+    pub leading_before : (t : ValueType) → ((e : TypeId) × (t ≡ Pointer e)) ⊎ ((e : TypeId) × (t ≡ Slice e)) → t ≡ type_at T i → 0 ≡ part_offset (tree_named T i) j
+    leading_before = leads_on (λ t. 0 ≡ part_offset t j) (λ n. refl) (λ n. refl)
 
     -- nor have structs that aren't told
     pub untold_part : (s : StructId) → Struct s ≡ type_at T i → None ≡ fields_of T s.0 → part_type (tree_named T i) j ≡ ints

@@ -10,7 +10,7 @@ use Rattle.base.specs.declared.ids.TypeId.{TypeId}
 use Rattle.typed.specs.declared.told.Told.{Told}
 use Rattle.base.specs.declared.ids.StructId.{StructId}
 use Rattle.base.specs.declared.value_type.ValueType.{ValueType}
-use Rattle.base.specs.declared.value_type.ValueType.TheVariants.{Int, Bool as Truth, Struct, Array}
+use Rattle.base.specs.declared.value_type.ValueType.TheVariants.{Int, Bool as Truth, Struct, Array, Pointer, Slice}
 use Rattle.typed.specs.Tables.{Table, Holds, fields_of, with_fields}
 use Rattle.typed.specs.declared.fault.TableFault.TheVariants.{Empty, TooLarge}
 use Rattle.typed.specs.Words.{IsInLimits, within_limit, refusal_by, is_over}
@@ -48,6 +48,8 @@ module _ (types : List ValueType) (told : List (Option Told)) (words : List (Opt
         by : (b : Bool) → (r.0 == s) ≡ b → (if b then Some sum else struct_words told r.0) ≡ words_of U (Struct r)
         by true e = ap (λ w. Some w) summed ∙ sym (told_words T (deep T formed) s untold fields have r (eqb-true r.0 s e))
         by false e = struct_kept types told words formed counted r ∙ sym (other_words T (deep T formed) s untold fields have r e)
+    told_is before (Pointer e) h = sym (ap (option_map width) (made_now T (deep T formed) s untold fields have (Pointer e)))
+    told_is before (Slice e) h = sym (ap (option_map width) (made_now T (deep T formed) s untold fields have (Slice e)))
     told_is before (Array n e) h = ap (option_map (λ w. n * w)) (h n e refl) ∙ sym (array_words_by U (made_now T (deep T formed) s untold fields have) n e)
 
     pub step_is : (before : List (Option ℕ)) (i : ℕ) (d : ValueType) → i < length types → before ≡ map (words_of U) (take i types) → told_by before told s sum (get_or types i d) ≡ words_of U (get_or types i d)

@@ -6,7 +6,7 @@ use Rattle.typed.specs.declared.expr.Place.{Row_of-Step, end_of-Step, more_of-St
 use Rattle.typed.specs.declared.expr.Expr.{Row_of-Element, end_of-Element, more_of-Element, items-the_row-Element}
 use Rattle.typed.specs.declared.expr.Step.TheVariants as way
 use Rattle.typed.specs.declared.expr.Element.TheVariants as item
-use Rattle.typed.specs.declared.expr.Element.TheViews.{the_lemmas as expr_lemmas}
+use Rattle.typed.specs.declared.expr.Bound.TheViews.{the_lemmas as expr_lemmas}
 use Rattle.typed.specs.declared.stmt.Stmt.{Row_of-Stmt, end_of-Stmt, more_of-Stmt, items-the_row-Stmt}
 use Rattle.typed.specs.declared.stmt.Stmt.TheViews.{the_lemmas as stmt_lemmas}
 use Rattle.typed.specs.Positions.{position}

@@ -10,7 +10,7 @@ use Rattle.typed_syntax.specs.Types.{TypeTree, PartTypes, struct_of, no_types, m
 use Rattle.base.specs.declared.ids.TypeId.{TypeId}
 use Rattle.base.specs.declared.ids.StructId.{StructId}
 use Rattle.base.specs.declared.value_type.ValueType.{ValueType}
-use Rattle.base.specs.declared.value_type.ValueType.TheVariants.{Int, Bool as Truth, Struct, Array}
+use Rattle.base.specs.declared.value_type.ValueType.TheVariants.{Int, Bool as Truth, Struct, Array, Pointer, Slice}
 use Rattle.typed.specs.Tables.{Table, Holds, fields_of, with_fields, told}
 use Rattle.typed.specs.Words.{IsInLimits, is_over}
 use Rattle.typed.specs.Trees.{part_by, more_by, parts_by, tree_within, tree_of, words_of, depth_of}
@@ -176,6 +176,8 @@ module _ (T : Table) (nests : IsDeep T) (s : ℕ) (untold : IsUntold T s) (field
     positive (suc m) i Int w l h p = let e : 1 ≡ w = cc (sym (ap (option_map width) (made_now Int)) ∙ p) in omega arith
     positive (suc m) i Truth w l h p = let e : 1 ≡ w = cc (sym (ap (option_map width) (made_now Truth)) ∙ p) in omega arith
     positive (suc m) i (Struct r) w l h p = (structs_now r w p).0
+    positive (suc m) i (Pointer a) w l h p = let e : 1 ≡ w = cc (sym (ap (option_map width) (made_now (Pointer a))) ∙ p) in omega arith
+    positive (suc m) i (Slice a) w l h p = let e : 3 ≡ w = cc (sym (ap (option_map width) (made_now (Slice a))) ∙ p) in omega arith
     positive (suc m) i (Array n a) w l h p =
         let q = formed.placed i (Array n a) h in
         let b = slice_get_within T.types i (Array n a) h in

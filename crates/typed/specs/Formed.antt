@@ -6,16 +6,18 @@ use Rattle.typed_syntax.specs.Types.{TypeTree, width}
 use Rattle.base.specs.declared.ids.TypeId.{TypeId}
 use Rattle.base.specs.declared.ids.StructId.{StructId}
 use Rattle.base.specs.declared.value_type.ValueType.{ValueType}
-use Rattle.base.specs.declared.value_type.ValueType.TheVariants.{Int, Bool as Truth, Struct, Array}
+use Rattle.base.specs.declared.value_type.ValueType.TheVariants.{Int, Bool as Truth, Struct, Array, Pointer, Slice}
 use Rattle.typed.specs.declared.fault.TableFault.{TableFault}
 use Rattle.typed.specs.declared.fault.TableFault.TheVariants.{TooLarge}
 use Rattle.typed.specs.Tables.{Table, Holds, fields_of, with_fields, told}
 use Rattle.typed.specs.Trees.{part_by, tree_by, tree_within, tree_of, words_of}
 use Rattle.typed.specs.Words.{IsInLimits, refusal_by, is_over}
 
--- an array with a number stands after the type of its elements
+-- an array with a number stands after the type of its elements, and so does what leads to a type
 abbrev pub IsPlaced : ℕ → ValueType → Type 0
 IsPlaced i (Array n e) = (e.0 < i) × IsInLimits n
+IsPlaced i (Pointer e) = e.0 < i
+IsPlaced i (Slice e) = e.0 < i
 IsPlaced i t = Unit {0}
 
 -- what holds of each table
@@ -47,9 +49,11 @@ AreStructWords T words = (s : StructId) (fields : List TypeId) → fields_of T s
 
 -- ---- what is refused
 
--- the elements of an array are of a type of the table
+-- the elements of an array or a slice are of a type of the table, and a pointer leads to one
 abbrev pub Stands : Table → ValueType → Type 0
 Stands T (Array n e) = e.0 < length T.types
+Stands T (Pointer e) = e.0 < length T.types
+Stands T (Slice e) = e.0 < length T.types
 Stands T t = Unit {0}
 
 -- the tree of the type with a number

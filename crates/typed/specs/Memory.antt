@@ -5,7 +5,7 @@ use Rattle.base.specs.declared.ids.TypeId.{TypeId}
 use Rattle.typed.specs.declared.told.Told.{Told}
 use Rattle.base.specs.declared.ids.StructId.{StructId}
 use Rattle.base.specs.declared.value_type.ValueType.{ValueType}
-use Rattle.base.specs.declared.value_type.ValueType.TheVariants.{Int, Bool as Truth, Struct, Array}
+use Rattle.base.specs.declared.value_type.ValueType.TheVariants.{Int, Bool as Truth, Struct, Array, Pointer, Slice}
 use Rattle.typed.specs.Tables.{Table}
 use Rattle.typed.specs.Trees.{words_of}
 use Rattle.typed.specs.Words.{within_limit}
@@ -35,6 +35,8 @@ words_by words told Int = Some 1
 words_by words told Truth = Some 1
 words_by words told (Struct s) = struct_words told s.0
 words_by words told (Array n e) = option_and_then (λ w. within_limit (n * w)) (get_or words e.0 None)
+words_by words told (Pointer e) = Some 1
+words_by words told (Slice e) = Some 3
 
 abbrev pub least_by : List (Option ℕ) → List (Option Told) → ValueType → ℕ
 least_by words told (Array n e) = n * unwrap_or (get_or words e.0 None) 1
@@ -46,3 +48,5 @@ told_by before told s words Int = Some 1
 told_by before told s words Truth = Some 1
 told_by before told s words (Struct r) = if r.0 == s then Some words else struct_words told r.0
 told_by before told s words (Array n e) = option_map (λ w. n * w) (get_or before e.0 None)
+told_by before told s words (Pointer e) = Some 1
+told_by before told s words (Slice e) = Some 3

@@ -1,10 +1,10 @@
 -- The types of a table as trees.
 use Rattle.std.specs.Prelude.{ℕ, zero, suc, ◌*◌, List, [], ◌∷◌, length, map, get_or, slice_get, Option, None, Some}
 use Rattle.std.specs.Option.{unwrap_or, option_map, option_and_then}
-use Rattle.typed_syntax.specs.Types.{TypeTree, PartTypes, ints, bools, struct_of, array_of, no_types, more_types, width, part_offset}
+use Rattle.typed_syntax.specs.Types.{TypeTree, PartTypes, ints, bools, struct_of, array_of, pointer_to, slice_of, no_types, more_types, width, part_offset}
 use Rattle.base.specs.declared.ids.TypeId.{TypeId}
 use Rattle.base.specs.declared.value_type.ValueType.{ValueType}
-use Rattle.base.specs.declared.value_type.ValueType.TheVariants.{Int, Bool as Truth, Struct, Array}
+use Rattle.base.specs.declared.value_type.ValueType.TheVariants.{Int, Bool as Truth, Struct, Array, Pointer, Slice}
 use Rattle.typed.specs.Tables.{Table, fields_of, told}
 
 -- the tree of the type that has a number, where these are the trees of the types
@@ -18,12 +18,15 @@ abbrev pub parts_by : Table → (ValueType → Option TypeTree) → List TypeId 
 parts_by T tree [] = Some no_types
 parts_by T tree (e ∷ es) = more_by (part_by T tree e.0) (parts_by T tree es)
 
--- the tree of a type, made of those of its parts; none where a struct isn't told, or a part has none
+-- the tree of a type, made of those of its parts; none where a struct isn't told, or a part has none. What a pointer leads to and what
+-- the elements of a slice are is no part: it's named by its number, and so may be a struct that isn't told, or hold the type itself
 abbrev pub tree_by : Table → (ValueType → Option TypeTree) → ValueType → Option TypeTree
 tree_by T tree Int = Some ints
 tree_by T tree Truth = Some bools
 tree_by T tree (Struct s) = option_and_then (λ fields. option_map struct_of (parts_by T tree fields)) (fields_of T s.0)
 tree_by T tree (Array n e) = option_map (array_of n) (part_by T tree e.0)
+tree_by T tree (Pointer e) = Some (pointer_to e.0)
+tree_by T tree (Slice e) = Some (slice_of e.0)
 
 -- the tree of a type that nests so deep at most
 abbrev pub tree_within : Table → ℕ → ValueType → Option TypeTree

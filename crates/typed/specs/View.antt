@@ -5,16 +5,17 @@ use Rattle.typed.specs.declared.expr.Const.{Const}
 use Rattle.typed.specs.declared.expr.Const.TheVariants.{Int, Bool}
 use Rattle.typed.specs.declared.expr.Step.{Step}
 use Rattle.typed.specs.declared.expr.Step.TheVariants as way
-use Rattle.typed.specs.declared.expr.Place.{Place, Row_of-Step, end_of-Step, more_of-Step, Local', Global'}
+use Rattle.typed.specs.declared.expr.Place.{Place, Row_of-Step, end_of-Step, more_of-Step, Local', Global', Indirect', SliceElement'}
 use Rattle.typed.specs.declared.expr.Element.{Element}
 use Rattle.typed.specs.declared.expr.Element.TheVariants as item
-use Rattle.typed.specs.declared.expr.Expr.{Expr, Row_of-Element, end_of-Element, more_of-Element, Constant, Read, Unary', Binary', LogicalAnd', LogicalOr', Call', Part', Literal'}
+use Rattle.typed.specs.declared.expr.Expr.{Expr, Row_of-Element, end_of-Element, more_of-Element, Constant, Read, Unary', Binary', LogicalAnd', LogicalOr', Call', Part', Literal', Nil, AddressOf, New as NewVariable, NewLiteral', SliceLiteral', Make', Append', AppendSlice', Copy', Slicing', ArraySlicing, Len', Cap'}
+use Rattle.typed.specs.declared.expr.Bound.{Bound as BoundData, Absent, At'}
 use Rattle.typed.specs.declared.expr.Values.{Values, Row_of-Expr, end_of-Expr, more_of-Expr, Each', Results', ReadInt}
 use Rattle.typed.specs.declared.stmt.Left.{Left as LeftData}
 use Rattle.typed.specs.declared.stmt.Left.TheVariants.{Blank, New, To}
 use Rattle.typed.specs.declared.stmt.Piece.{Piece as PieceData}
 use Rattle.typed.specs.declared.stmt.Piece.TheVariants.{Text, Shown}
-use Rattle.typed.specs.declared.stmt.Stmt.{Stmt, Row_of-Stmt, end_of-Stmt, more_of-Stmt, Declare, Assign, Update, Bump, Discard, Block', If', For', Count', Indices', Elements', Break, Continue, Return, Print, Panic, Exit}
+use Rattle.typed.specs.declared.stmt.Stmt.{Stmt, Row_of-Stmt, end_of-Stmt, more_of-Stmt, Declare, Assign, Update, Bump, Discard, Block', If', For', Count', Indices', Elements', SliceElements', PointedElements', PointedIndices', Break, Continue, Return, Print, Panic, Exit}
 use Rattle.typed.specs.declared.program.Func.{Func as FuncData}
 use Rattle.typed.specs.declared.program.PackageVariable.{PackageVariable}
 use Rattle.typed.specs.declared.program.Site.{Site}
@@ -23,7 +24,7 @@ use Rattle.typed.specs.Positions.{position}
 use Rattle.typed.specs.Trees.{trees}
 use Rattle.typed_syntax.specs.Types.{TypeTree, ints, bools}
 use Rattle.typed_syntax.specs.Value.{Value, int, bool, zero_of}
-use Rattle.typed_syntax.specs.Syntax.{Ex, Exs, Pl, Steps, Elements, Left, Piece, St, Sts, Func, Program, constant, read, unary, binary, logical_and, logical_or, call, part_of, literal, no_elements, element, local, global, here, inner, at_index, none, more, results, read_int, blank, new, to, text, shown, over_int, over_length, over_copy, declare, assign, update, bump, discard, block, if_stmt, for_stmt, range, break_stmt, continue_stmt, return_stmt, print, panic, exit, done, next, type_in}
+use Rattle.typed_syntax.specs.Syntax.{Ex, Exs, Pl, Steps, Bound, Elements, Left, Piece, St, Sts, Func, Program, constant, read, unary, binary, logical_and, logical_or, call, part_of, literal, nil, address_of, new_variable, literal_variable, slice_literal, make, append, append_slice, copy, slicing, array_slicing, len, cap, absent, bound, no_elements, element, local, global, indirect, slice_element, here, inner, at_index, none, more, results, read_int, blank, new, to, text, shown, over_int, over_length, over_copy, over_slice, over_pointer, over_pointed, declare, assign, update, bump, discard, block, if_stmt, for_stmt, range, break_stmt, continue_stmt, return_stmt, print, panic, exit, done, next, type_in}
 
 -- the types of whole numbers and of truth values, by their numbers: they come first in each table
 abbrev pub basic_types : List TypeTree
@@ -47,10 +48,29 @@ abbrev mutual
   ex_of (Call' f p vs) = call f.0 (exs_of_values vs)
   ex_of (Part' t i p e) = part_of t.0 i (ex_of e)
   ex_of (Literal' t shape row) = literal t.0 (elements_of_row row)
+  ex_of (Nil t) = nil t.0
+  ex_of (AddressOf q) = address_of (place_of q)
+  ex_of (NewVariable site) = new_variable site.0
+  ex_of (NewLiteral' site p e) = literal_variable site.0 (ex_of e)
+  ex_of (SliceLiteral' site shape row) = slice_literal site.0 (exs_of_row row)
+  ex_of (Make' at site p e room) = make (position at) site.0 (ex_of e) (bound_of room)
+  ex_of (Append' site p e shape row) = append site.0 (ex_of e) (exs_of_row row)
+  ex_of (AppendSlice' site p a q b) = append_slice site.0 (ex_of a) (ex_of b)
+  ex_of (Copy' t p a q b) = copy t.0 (ex_of a) (ex_of b)
+  ex_of (Slicing' at t p e low high) = slicing (position at) t.0 (ex_of e) (bound_of low) (bound_of high)
+  ex_of (ArraySlicing at q n low high) = array_slicing (position at) (place_of q) n (bound_of low) (bound_of high)
+  ex_of (Len' p e) = len (ex_of e)
+  ex_of (Cap' p e) = cap (ex_of e)
+
+  pub bound_of : BoundData → Bound
+  bound_of Absent = absent
+  bound_of (At' p e) = bound (ex_of e)
 
   pub place_of : Place → Pl
   place_of (Local' site shape row) = local site.0 (steps_of_row row)
   place_of (Global' number shape row) = global number (steps_of_row row)
+  place_of (Indirect' at p e t shape row) = indirect (position at) (ex_of e) t.0 (steps_of_row row)
+  place_of (SliceElement' at p e q i t shape row) = slice_element (position at) (ex_of e) (ex_of i) t.0 (steps_of_row row)
 
   pub steps_of_row : {m : _} → Row_of-Step m → Steps
   steps_of_row end_of-Step = here
@@ -113,6 +133,9 @@ abbrev mutual
   st_of (Count' e key shape row) = range (over_int (ex_of e)) (left_of key) blank (sts_of_row row)
   st_of (Indices' n key shape row) = range (over_length n) (left_of key) blank (sts_of_row row)
   st_of (Elements' site e n key value shape row) = range (over_copy site.0 (ex_of e) n) (left_of key) (left_of value) (sts_of_row row)
+  st_of (SliceElements' e t key value shape row) = range (over_slice (ex_of e) t.0) (left_of key) (left_of value) (sts_of_row row)
+  st_of (PointedElements' at e n t key value shape row) = range (over_pointer (position at) (ex_of e) n t.0) (left_of key) (left_of value) (sts_of_row row)
+  st_of (PointedIndices' n key shape row) = range (over_pointed n) (left_of key) blank (sts_of_row row)
   st_of Break = break_stmt
   st_of Continue = continue_stmt
   st_of (Return vs) = return_stmt (exs_of_values vs)

@@ -29,6 +29,19 @@ pub enum Place {
     Local(SiteId, Vec<Step>),
     /// A package variable, by its number in the order of the text.
     Global(u32, Vec<Step>),
+    /// What a pointer leads to: the place that a panic would name, the pointer, and the type of what it leads to.
+    Indirect(Pos, Box<Expr>, TypeId, Vec<Step>),
+    /// An element of a slice: the place that a panic would name, the slice, the index, and the type of the elements.
+    SliceElement(Pos, Box<Expr>, Box<Expr>, TypeId, Vec<Step>),
+}
+
+/// A bound of a slicing, or the capacity of a `make`.
+#[derive(Drop)]
+#[cycle(expression)]
+pub enum Bound {
+    /// The text has none.
+    Absent,
+    At(Box<Expr>),
 }
 
 /// An element of a literal.
@@ -59,6 +72,32 @@ pub enum Expr {
     Part(TypeId, u32, Box<Expr>),
     /// A struct or an array of a type, and its elements in the order of the text; what no element is for is zero.
     Literal(TypeId, Vec<Element>),
+    /// `nil`, of a type of pointers or of slices.
+    Nil(TypeId),
+    /// `&` of a place.
+    AddressOf(Place),
+    /// `new`: a pointer to a new variable of a site.
+    New(SiteId),
+    /// `&` of a literal: a pointer to a new variable of a site, which begins with it.
+    NewLiteral(SiteId, Box<Expr>),
+    /// A slice literal: a slice of all elements of a new array of a site, whose type is that of the elements.
+    SliceLiteral(SiteId, Vec<Expr>),
+    /// `make`: the place that a panic would name, the site of the new array, whose type is that of the elements, the length and the
+    /// capacity.
+    Make(Pos, SiteId, Box<Expr>, Bound),
+    /// `append` of elements to a slice; a new array is one of the site, whose type is that of the elements.
+    Append(SiteId, Box<Expr>, Vec<Expr>),
+    /// `append` of the elements of the second slice to the first.
+    AppendSlice(SiteId, Box<Expr>, Box<Expr>),
+    /// `copy` from the second slice to the first, and the type of their elements.
+    Copy(TypeId, Box<Expr>, Box<Expr>),
+    /// A part of a slice: the place that a panic would name, the type of the elements, the slice, and the bounds.
+    Slicing(Pos, TypeId, Box<Expr>, Bound, Bound),
+    /// A slice of the array of this length at a place.
+    ArraySlicing(Pos, Place, u64, Bound, Bound),
+    /// `len` and `cap` of a slice.
+    Len(Box<Expr>),
+    Cap(Box<Expr>),
 }
 
 /// The values of a declaration, an assignment, a call or a return.

@@ -1,14 +1,18 @@
 //! The typed program as plain data, and the types of a program, each once, by numbers.
 //!
-//! A type is a small value: a basic type, a declared struct by its number, or an array, by its length and the number of its elements' type, that stands in the
-//! table. In the table each type stands once, so that two types are identical exactly where these values are equal, and exactly where
-//! their numbers are (Go specification, "Type identity").
+//! A type is a small value: a basic type, a declared struct by its number, an array, by its length and the number of its elements' type,
+//! a pointer, by the number of the type that it leads to, or a slice, by that of its elements' type. Such types stand in the table, each
+//! once, so that two types are identical exactly where these values are equal, and exactly where their numbers are (Go specification,
+//! "Type identity").
 //!
 //! Structs may hold each other in any order of the text, so a table is made with a number of structs, none of which is told yet. A struct is
 //! told once the types of its fields have words; then it has as many as these together. Where the words of all structs are known, they are
 //! told at once instead, so that the numbers of types depend on the text alone. The words of each type are kept beside it: structs nest,
 //! and to count the words of a type part by part could take exponential time. No type of more than 65,535 words, or of none, stands in the
 //! table.
+//!
+//! A pointer has one word and a slice three, whatever they lead to, which may be a struct that is not told: so a struct can lead to itself.
+//! It gets its number first, then the pointer to it, and then it is told with fields of that type.
 //!
 //! `specs/Tables` says what a contract sees of a table: the list of its types, and the fields of the structs that are told.
 //! `specs/Trees` gives each type its tree (`value_trees`), from which its words and the offsets of its parts follow: a
@@ -27,7 +31,7 @@ mod stmt;
 mod table;
 mod told;
 
-pub use expr::{Const, Element, Expr, Place, Step, Values};
+pub use expr::{Bound, Const, Element, Expr, Place, Step, Values};
 pub use fault::TableFault;
 pub use program::{BOOL, Func, INT, PackageVariable, Program, Site};
 pub use stmt::{Left, Piece, Stmt};

@@ -37,6 +37,7 @@ impl TypeTable {
     {
         match self.type_at(id) {
             ValueType::Int | ValueType::Bool => 0,
+            ValueType::Pointer(_) | ValueType::Slice(_) => 0,
             ValueType::Struct(struct_id) => u64::from(self.field_offset(struct_id, index as usize)),
             ValueType::Array(length, element) => {
                 let before = u64::from(index).min(length);
@@ -54,6 +55,7 @@ impl TypeTable {
     {
         match self.type_at(id) {
             ValueType::Int | ValueType::Bool => None,
+            ValueType::Pointer(_) | ValueType::Slice(_) => None,
             ValueType::Struct(struct_id) => self.fields(struct_id)?.get(index as usize).copied(),
             ValueType::Array(length, element) => (u64::from(index) < length).then_some(element),
         }

@@ -45,6 +45,8 @@ pub fn words_by(
 {
     match value_type {
         ValueType::Int | ValueType::Bool => Some(1),
+        ValueType::Pointer(_) => Some(1),
+        ValueType::Slice(_) => Some(3),
         ValueType::Struct(id) => struct_words(structs, id),
         ValueType::Array(length, element) => match words.get(element.0 as usize) {
             Some(Some(words)) => array_words(length, *words),
@@ -113,6 +115,8 @@ pub fn words_when_told(
 {
     match value_type {
         ValueType::Int | ValueType::Bool => Ok(Some(1)),
+        ValueType::Pointer(_) => Ok(Some(1)),
+        ValueType::Slice(_) => Ok(Some(3)),
         ValueType::Struct(other) if other == id => Ok(Some(words)),
         ValueType::Struct(other) => Ok(struct_words(structs, other)),
         ValueType::Array(length, element) => match before.get(element.0 as usize) {

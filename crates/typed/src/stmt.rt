@@ -35,7 +35,7 @@ pub enum Stmt {
     Update(Pos, Place, BinOp, Expr),
     /// `++` and `--`: the position of that operator, the place, and the operator on it and 1.
     Bump(Pos, Place, BinOp),
-    /// A call whose results are not used.
+    /// A call whose results are not used, also one of `copy`.
     Discard(Values),
     Block(Vec<Stmt>),
     /// The condition, and what is done where it is true and where it is false.
@@ -50,6 +50,13 @@ pub enum Stmt {
     /// `range` over the elements of an array of this length, of which a hidden variable of a site gets a copy; the left sides get the index
     /// and the element.
     Elements(SiteId, Expr, u64, Left, Left, Vec<Stmt>),
+    /// `range` over a slice, whose elements are of this type; the left sides get the index and the element.
+    SliceElements(Expr, TypeId, Left, Left, Vec<Stmt>),
+    /// `range` over the array of this length that a pointer leads to, whose elements are of this type: the place that a panic would name,
+    /// and the pointer.
+    PointedElements(Pos, Expr, u64, TypeId, Left, Left, Vec<Stmt>),
+    /// `range` over the indices of such an array, for which the pointer is not worked out.
+    PointedIndices(u64, Left, Vec<Stmt>),
     Break,
     Continue,
     /// A return with these values. Without values, that of a function with named results gives these.

@@ -11,13 +11,13 @@ use Rattle.typed.specs.declared.program.Site.{Site}
 use Rattle.typed_syntax.specs.Syntax.{Func, Program, site_type}
 use Rattle.typed_syntax.specs.Form.{GlobalFits}
 use Rattle.typed_syntax.specs.Types.{TypeTree}
-use Rattle.typed_syntax.specs.Value.{Value, int, bool, IsOf, FitsWords, zero_of}
-use Rattle.value_laws.proofs.Zeros.{zero_is, zero_fits}
+use Rattle.typed_syntax.specs.Value.{Value, int, bool, IsOf, FitsWords, LeadsNowhere, zero_of}
+use Rattle.value_laws.proofs.Zeros.{zero_is, zero_fits, zero_alone}
 use Rattle.constants.specs.declared.constant.Constant.{Constant}
 use Rattle.constants.specs.declared.constant.Constant.TheVariants.{Number, Truth}
 use Rattle.constants.specs.declared.constant.Fixed.{Fixed}
 use Rattle.base.specs.declared.value_type.ValueType.{ValueType}
-use Rattle.base.specs.declared.value_type.ValueType.TheVariants.{Int, Bool as Boolean, Struct, Array}
+use Rattle.base.specs.declared.value_type.ValueType.TheVariants.{Int, Bool as Boolean, Struct, Array, Pointer, Slice}
 use Rattle.typed.specs.Tables.{Table}
 use Rattle.typed.specs.Formed.{IsFormed}
 use Rattle.constants.specs.Constants.{is_int}
@@ -51,7 +51,13 @@ int_word : (c : Constant) → FitsWords (int (int_in c))
 int_word (Number z) = word_by z (is_int z) refl
 int_word (Truth b) = is_word (pos 0) refl
 
--- what a variable begins with is of its type
+-- what a variable begins with leads nowhere
+first_alone : (t : ValueType) (c : Option Fixed) (x : TypeTree) → LeadsNowhere (or_zero x (begins t c))
+first_alone Int (Some f) x = tt
+first_alone Boolean (Some f) x = tt
+first_alone t c x = zero_alone x
+
+-- and is of its type
 module _ (T : Table) (formed : IsFormed T) where
   zero_begins : (x : TypeTree) → IsOf x (zero_of x) × FitsWords (zero_of x)
   zero_begins x = (zero_is x, zero_fits x)
@@ -63,6 +69,8 @@ module _ (T : Table) (formed : IsFormed T) where
   first_fits Boolean (Some f) x is = (subst (λ (y : TypeTree). IsOf y (bool (truth_in f.value))) (sym (is ∙ bool_tree T formed)) tt, tt)
   first_fits (Struct k) c x is = zero_begins x
   first_fits (Array n e) c x is = zero_begins x
+  first_fits (Pointer e) c x is = zero_begins x
+  first_fits (Slice e) c x is = zero_begins x
 
 mapped_at : {A B : Type 0} (f : A → B) (xs : List A) (k : ℕ) (x : A) → slice_get xs k ≡ Some x → slice_get (map f xs) k ≡ Some (f x)
 mapped_at f [] k x is = absurd (none_some is)
@@ -313,6 +321,7 @@ module _ (text : List ℕ) (heads : Scope) where
         let here : GlobalFits p (begun_at p.sites raw.0) = record {
           value = subst (λ (o : Option Value). IsOf (site_type p raw.0.0) (or_zero (site_type p raw.0.0) o) × FitsWords (or_zero (site_type p raw.0.0) o))
               (sym begins1.1.1.1) fits;
+          alone = subst (λ (o : Option Value). LeadsNowhere (or_zero (site_type p raw.0.0) o)) (sym begins1.1.1.1) (first_alone t begins1.1.0 (site_type p raw.0.0));
           apart = λ n f found. globals_apart s 0 ms fs is j raw.0 raw.1 n f (ap (λ (l : List Func). slice_get l n) (sym funcs) ∙ found);
         } in
         subst (GlobalFits p) raw.2 here

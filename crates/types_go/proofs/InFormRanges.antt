@@ -5,7 +5,7 @@ use Rattle.std.specs.Option.{option_map}
 use Rattle.std.proofs.Math.Nat.{mul-suc}
 use Rattle.base.specs.declared.pos.Pos.{Pos}
 use Rattle.base.specs.declared.value_type.ValueType.{ValueType}
-use Rattle.base.specs.declared.value_type.ValueType.TheVariants.{Int, Bool as Truth, Struct, Array}
+use Rattle.base.specs.declared.value_type.ValueType.TheVariants.{Int, Bool as Truth, Struct, Array, Pointer, Slice}
 use Rattle.base.specs.Types.{same_type}
 use Rattle.base.proofs.Types.{same_is}
 use Rattle.syntax.specs.declared.expression.Name.{Name}
@@ -15,7 +15,7 @@ use Rattle.syntax.specs.Statements.{Targets, no_targets, targets_assigned, targe
 use Rattle.typed.specs.declared.program.Site.{Site}
 use Rattle.typed.specs.Tables.{Table, type_at}
 use Rattle.typed.specs.Formed.{IsFormed}
-use Rattle.typed_syntax.specs.Syntax.{Ex, Left, Over, Sts, Program, blank, new, to, over_int, over_length, over_copy, site_type}
+use Rattle.typed_syntax.specs.Syntax.{Ex, Left, Over, Sts, Program, blank, new, to, over_int, over_length, over_copy, over_slice, over_pointer, over_pointed, site_type}
 use Rattle.typed_syntax.specs.Types.{TypeTree, ints, array_of}
 use Rattle.typed_syntax.specs.Form.{LeftsFit, new_sites, over_sites, scope_behind, ExFits, StFits, StsFit, named_params as with_sites}
 use Rattle.type_faults.specs.Given.{allowed}
@@ -164,6 +164,8 @@ array_is : (T : Table) → IsFormed T → (u t : ValueType) (a : ArrayType) → 
 array_is T formed Int t a is = let k = same_some is in absurd cc
 array_is T formed Truth t a is = absurd (none_some is)
 array_is T formed (Struct k) t a is = absurd (none_some is)
+array_is T formed (Pointer e) t a is = absurd (none_some is)
+array_is T formed (Slice e) t a is = absurd (none_some is)
 array_is T formed (Array n e) t a is = by (is_known T (Array n e)) refl is
   where
     by : (b : Bool) → is_known T (Array n e) ≡ b → option_map (array (Array n e)) (allowed b (Some (record { length = n; element = type_at T e.0 }))) ≡ Some (array t a) → IsArray T (Array n e) t a
@@ -183,6 +185,8 @@ int_is : (T : Table) (u : ValueType) → ranged_type T u ≡ Some numbers → u 
 int_is T Int is = refl
 int_is T Truth is = absurd (none_some is)
 int_is T (Struct k) is = absurd (none_some is)
+int_is T (Pointer e) is = absurd (none_some is)
+int_is T (Slice e) is = absurd (none_some is)
 int_is T (Array n e) is = let q = map_some (array (Array n e)) (array_parts T (Array n e)) numbers is in let bad = q.2 in absurd cc
 
 nothing_copied : (n : Option ℕ) → copied (Some numbers) n ≡ None
@@ -193,6 +197,9 @@ pub over_later : (o : Over) (others : ℕ) → over_sites o others ≡ over_site
 over_later (over_int e) others = omega arith
 over_later (over_length n) others = omega arith
 over_later (over_copy site e n) others = omega arith
+over_later (over_slice e n) others = omega arith
+over_later (over_pointer at e x n) others = omega arith
+over_later (over_pointed x) others = omega arith
 
 -- ---- left sides
 
@@ -286,6 +293,9 @@ abbrev pub over_scope : List ℕ → Over → (key value : Left) → List ℕ
 over_scope scope (over_int e) key value = scope_behind scope (key ∷ [])
 over_scope scope (over_length n) key value = scope_behind scope (key ∷ [])
 over_scope scope (over_copy site e n) key value = scope_behind (site ∷ scope) (key ∷ value ∷ [])
+over_scope scope (over_slice e n) key value = scope_behind scope (key ∷ value ∷ [])
+over_scope scope (over_pointer at e x n) key value = scope_behind scope (key ∷ value ∷ [])
+over_scope scope (over_pointed x) key value = scope_behind scope (key ∷ [])
 
 abbrev pub range_scope : List ℕ → Range → List ℕ
 range_scope scope r = over_scope scope r.over r.key r.value

@@ -4,7 +4,7 @@ use Rattle.std.specs.Prelude.{option_and_then}
 use Rattle.std.specs.Option.{option_map}
 use Rattle.std.proofs.lemmas.Bool.{false≢true}
 use Rattle.base.specs.declared.value_type.ValueType.{ValueType}
-use Rattle.base.specs.declared.value_type.ValueType.TheVariants.{Int, Bool as Boolean, Struct, Array}
+use Rattle.base.specs.declared.value_type.ValueType.TheVariants.{Int, Bool as Boolean, Struct, Array, Pointer, Slice}
 use Rattle.base.specs.Types.{same_type}
 use Rattle.syntax.specs.Expressions.{Ex as TreeEx, name, paren, array_type, spelled}
 use Rattle.constants.specs.declared.constant.Fixed.{Fixed}
@@ -33,6 +33,8 @@ IsBasic Int = Unit {0}
 IsBasic Boolean = Unit {0}
 IsBasic (Struct k) = ⊥
 IsBasic (Array n e) = ⊥
+IsBasic (Pointer e) = ⊥
+IsBasic (Slice e) = ⊥
 
 not_both : (a : Bool) → (a && false) ≡ true → ⊥
 not_both true h = false≢true h
@@ -48,6 +50,12 @@ held_basic (Struct k) c f h =
 held_basic (Array n e) c f h =
     let p = allowed_gives (same_type (Array n e) (constant_type c.value_type c.value) && false) _ f h in
     not_both (same_type (Array n e) (constant_type c.value_type c.value)) p.0
+held_basic (Pointer e) c f h =
+    let p = allowed_gives (same_type (Pointer e) (constant_type c.value_type c.value) && false) _ f h in
+    not_both (same_type (Pointer e) (constant_type c.value_type c.value)) p.0
+held_basic (Slice e) c f h =
+    let p = allowed_gives (same_type (Slice e) (constant_type c.value_type c.value) && false) _ f h in
+    not_both (same_type (Slice e) (constant_type c.value_type c.value)) p.0
 
 -- what is a type by a name
 type_named : (T : Table) (d : Option Declared) (u : ValueType) → declared_type T d ≡ Some u → d ≡ Some (declared.«Type» u)
@@ -69,6 +77,8 @@ module _ (text : List ℕ) (T : Table) (int : is_known T Int ≡ true) (bool : i
   basic_known Boolean basic = bool
   basic_known (Struct k) basic = absurd basic
   basic_known (Array n e) basic = absurd basic
+  basic_known (Pointer e) basic = absurd basic
+  basic_known (Slice e) basic = absurd basic
 
   module _ (r s : Scope) (a : Alike T r s) where
     known_there : (u : ValueType) → IsBasic u → declared_type s.types (Some (declared.«Type» u)) ≡ Some u

@@ -14,9 +14,9 @@ use Rattle.typed_syntax.specs.declared.operators.BinOp.{BinOp as TypedOp}
 use Rattle.typed_syntax.specs.declared.operators.BinOp.TheVariants as op
 use Rattle.typed.specs.Positions.{position}
 use Rattle.typed_syntax.specs.Positions.{Position}
-use Rattle.typed_syntax.specs.Syntax.{Exs, Left, St, Sts, constant as constant_of, unary as unary_of, binary as binary_of, logical_and as both_of, logical_or as either_of, call as call_of, part_of, literal, read, declare, block, if_stmt, for_stmt, break_stmt, continue_stmt, return_stmt, none, done, next}
+use Rattle.typed_syntax.specs.Syntax.{Exs, Left, St, Sts, binary as binary_of, read, declare, block, if_stmt, for_stmt, break_stmt, continue_stmt, return_stmt, none, done, next}
 use Rattle.typed_syntax.specs.Form.{ends, ends_all, breaks, breaks_all}
-use Rattle.base.specs.declared.value_type.ValueType.TheVariants.{Int, Bool as Truth, Struct, Array}
+use Rattle.base.specs.declared.value_type.ValueType.TheVariants.{Int}
 use Rattle.type_faults.specs.Given.{both}
 use Rattle.type_faults.proofs.Options.{and_then_some, map_some, none_some, same_some}
 use Rattle.operators.specs.Operands.{Operand, constant, value, nil}
@@ -92,38 +92,13 @@ updated_still : (x : Operand) (t : St) → updated x ≡ Some t → IsStill t
 updated_still (constant c) t is = absurd (none_some is)
 updated_still nil t is = absurd (none_some is)
 updated_still (value u (binary_of at o (read q) e)) t is = ap breaks (sym (same_some is))
-updated_still (value u (binary_of at o (constant_of v) e)) t is = absurd (none_some is)
-updated_still (value u (binary_of at o (unary_of g a) e)) t is = absurd (none_some is)
-updated_still (value u (binary_of at o (binary_of at1 g a b) e)) t is = absurd (none_some is)
-updated_still (value u (binary_of at o (both_of a b) e)) t is = absurd (none_some is)
-updated_still (value u (binary_of at o (either_of a b) e)) t is = absurd (none_some is)
-updated_still (value u (binary_of at o (call_of f es) e)) t is = absurd (none_some is)
-updated_still (value u (binary_of at o (part_of n i a) e)) t is = absurd (none_some is)
-updated_still (value u (binary_of at o (literal n es) e)) t is = absurd (none_some is)
-updated_still (value u (constant_of v)) t is = absurd (none_some is)
-updated_still (value u (read q)) t is = absurd (none_some is)
-updated_still (value u (unary_of g a)) t is = absurd (none_some is)
-updated_still (value u (both_of a b)) t is = absurd (none_some is)
-updated_still (value u (either_of a b)) t is = absurd (none_some is)
-updated_still (value u (call_of f es)) t is = absurd (none_some is)
-updated_still (value u (part_of n i a)) t is = absurd (none_some is)
-updated_still (value u (literal n es)) t is = absurd (none_some is)
+updated_still (value u e) t is = absurd (none_some is)
 
 stepped_still : (p : Position) (o : TypedOp) (x : Operand) (t : St) → stepped p o x ≡ Some t → IsStill t
 stepped_still p o (constant c) t is = absurd (none_some is)
 stepped_still p o nil t is = absurd (none_some is)
 stepped_still p o (value Int (read q)) t is = ap breaks (sym (same_some is))
-stepped_still p o (value Truth e) t is = absurd (none_some is)
-stepped_still p o (value (Struct k) e) t is = absurd (none_some is)
-stepped_still p o (value (Array n u) e) t is = absurd (none_some is)
-stepped_still p o (value Int (constant_of v)) t is = absurd (none_some is)
-stepped_still p o (value Int (unary_of g a)) t is = absurd (none_some is)
-stepped_still p o (value Int (binary_of at g a b)) t is = absurd (none_some is)
-stepped_still p o (value Int (both_of a b)) t is = absurd (none_some is)
-stepped_still p o (value Int (either_of a b)) t is = absurd (none_some is)
-stepped_still p o (value Int (call_of f es)) t is = absurd (none_some is)
-stepped_still p o (value Int (part_of n i a)) t is = absurd (none_some is)
-stepped_still p o (value Int (literal n es)) t is = absurd (none_some is)
+stepped_still p o (value u e) t is = absurd (none_some is)
 
 expressed_still : (k : ℕ) (g : Gives) (t : St) → expressed k g ≡ Some t → IsStill t
 expressed_still k (one x) t is = absurd (none_some is)

@@ -3,7 +3,7 @@ use Rattle.std.specs.Prelude.{ℕ, length, Bool, true, not, ◌&&◌, List, [], 
 use Rattle.std.specs.Option.{option_map}
 use Rattle.base.specs.declared.pos.Pos.{Pos}
 use Rattle.base.specs.declared.value_type.ValueType.{ValueType}
-use Rattle.base.specs.declared.value_type.ValueType.TheVariants.{Int, Bool as Truth, Struct, Array}
+use Rattle.base.specs.declared.value_type.ValueType.TheVariants.{Int, Bool as Truth, Struct, Array, Pointer, Slice}
 use Rattle.syntax.specs.declared.expression.Name.{Name}
 use Rattle.syntax.specs.Expressions.{Ex as TreeEx, spelled}
 use Rattle.syntax.specs.Statements.{Targets, no_targets, targets_assigned, targets_defined}
@@ -34,6 +34,8 @@ abbrev pub ranged_type : Table → ValueType → Option Ranged
 ranged_type T Int = Some numbers
 ranged_type T Truth = None
 ranged_type T (Struct k) = None
+ranged_type T (Pointer e) = None
+ranged_type T (Slice e) = None
 ranged_type T (Array n e) = option_map (array (Array n e)) (array_parts T (Array n e))
 
 abbrev pub ranged_of : Table → Operand → Option Ranged

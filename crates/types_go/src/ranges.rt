@@ -97,6 +97,7 @@ fn ranged_type(types: &TypeTable, value_type: ValueType) -> Option<Ranged>
     match value_type {
         ValueType::Int => Some(Ranged::Numbers),
         ValueType::Bool | ValueType::Struct(_) => None,
+        ValueType::Pointer(_) | ValueType::Slice(_) => None,
         ValueType::Array(length, element) => {
             if is_known(types, value_type) {
                 let element_type = types.type_at(element);

@@ -1,10 +1,13 @@
 -- The fields of a struct, and the elements of an array.
 use Rattle.std.proofs.Common.{sym, subst}
-use Rattle.typed.proofs.PartTrees.{IsPart, basic_part, untold_part, field_part, element_part}
+use Rattle.typed.proofs.PartTrees.{IsPart, basic_part, leading_part, untold_part, field_part, element_part}
 use Rattle.typed.proofs.table.TypeTable.find_part.Goals as goal
 
 pub returns-in-Int-clause-part : goal.returns-in-Int-clause-part
 returns-in-Int-clause-part c = basic_part c.args.self.now c.type_at.ensures.formed c.args.id.0 c.args.index c.type_at.result c.in-Int.is c.type_at.ensures.is
+
+pub returns-in-Pointer-clause-part : goal.returns-in-Pointer-clause-part
+returns-in-Pointer-clause-part c = leading_part c.args.self.now c.type_at.ensures.formed c.args.id.0 c.args.index c.type_at.result c.in-Pointer.is c.type_at.ensures.is
 
 pub returns-in_err-fields-in-Struct-clause-part : goal.returns-in_err-fields-in-Struct-clause-part
 returns-in_err-fields-in-Struct-clause-part c =
