@@ -1,16 +1,16 @@
 -- A program exits with a status that an exit can have.
 use Rattle.std.proofs.Common.{◌≡◌, refl, ℕ, zero, suc, ◌+◌, ◌≤◌, ℤ, pos, negsuc, Bool, true, false, List, [], ◌∷◌, Option, Some, None, Result, Ok, Err, subst, arith, slice_get, nat_le, if◌then◌else◌, length, ◌-◌}
-use Rattle.std.specs.Prelude.{⊤, nat_lt}
+use Rattle.std.specs.Prelude.{⊤, ◌*◌, max, nat_lt}
 use Rattle.std.proofs.lemmas.Bool.{ltb-true}
 use Rattle.typed_syntax.specs.Positions.{Position}
-use Rattle.typed_syntax.specs.Value.{Value, int}
-use Rattle.typed_syntax.specs.Syntax.{Ex, Exs, Pl, Steps, Elements, Left, Piece, Over, St, Sts, Func, Program, constant, read, unary, binary, logical_and, logical_or, call, part_of, literal, no_elements, element, none, more, results, read_int, local, global, here, inner, at_index, blank, new, to, text, shown, over_int, over_length, over_copy, declare, assign, update, bump, discard, block, if_stmt, for_stmt, range, break_stmt, continue_stmt, return_stmt, print, panic, exit, done, next}
+use Rattle.typed_syntax.specs.Value.{Value, int, pointer, slice_in}
+use Rattle.typed_syntax.specs.Syntax.{Ex, Exs, Pl, Steps, Elements, Left, Piece, Over, St, Sts, Func, Program, constant, read, unary, binary, logical_and, logical_or, call, part_of, literal, nil, address_of, new_variable, literal_variable, slice_literal, make, append, append_slice, copy, slicing, array_slicing, len, cap, Bound, absent, bound, no_elements, element, none, more, results, read_int, local, global, indirect, slice_element, here, inner, at_index, blank, new, to, text, shown, over_int, over_length, over_copy, over_slice, over_pointer, over_pointed, declare, assign, update, bump, discard, block, if_stmt, for_stmt, range, break_stmt, continue_stmt, return_stmt, print, panic, exit, done, next}
 use Rattle.simulation.specs.Outcome as Run
 use Rattle.simulation.specs.Outcome.{Outcome, Gives, Ends, Unfinished, upto}
 use Rattle.meaning.specs.Trace.{World, Held, Call, Return, Born, Read, Write, Print, Fault, exit_code, Ending, Turns, Exit, Panic, StackLimit, HeapLimit, Trace, Turn, Note, Seen, End, Cut, Asked}
 use Rattle.meaning.specs.Store.{read_at, written}
-use Rattle.meaning.specs.Operators.{unary_of, binary_of}
-use Rattle.meaning.specs.Meaning.{Go, Then, Env, Ways, Calls, home, read_part, stop, write_part, Item, Setting, counted, count_of, int_of, quit_with, give, or_panic, holding, holding_all, when, is_true, Step, fixed, worked, element_of, Aim, Spot, settle_steps, settle, walk, aim, ev, fill, evs, Landing, nowhere, birth, on, landing_values, base_values, ready, ready_all, land, land_all, shown_bytes, emit_more, emit_plain, emit, pieces, test_of, renew, rounds, to_next, to_next_count, in_loop, outside, begin_range, index_round, element_round, range_round, exec, exec_all, bear_params, bear_zeros, write_results, read_results, leave, leave_with, run_body, call_at, bear_globals, setting_of, at_top, beginning, trace}
+use Rattle.meaning.specs.Operators.{unary_of, binary_of, slice_count, slice_room, slice_part, array_part, sizes_of}
+use Rattle.meaning.specs.Meaning.{Go, Then, Env, Ways, Calls, stop, write_part, Item, Setting, counted, int_of, quit_with, give, or_panic, holding, holding_all, when, is_true, Step, fixed, worked, element_of, base_spot, pointed, Aim, Spot, settle_steps, settle, read_first, write_behind, add_within, regrow, add_to, copy_count, copy_first, bound_values, walk, aim, ev, ev_bound, fill, evs, Landing, nowhere, birth, on, landing_values, base_values, ready, ready_all, land, land_all, shown_bytes, emit_more, emit_plain, emit, pieces, test_of, renew, rounds, to_next, to_next_count, in_loop, outside, begin_range, index_round, read_copied, read_sliced, read_pointed, reading_round, range_round, exec, exec_all, bear_params, bear_zeros, write_results, read_results, leave, leave_with, run_body, call_at, bear_globals, setting_of, at_top, beginning, trace}
 use Rattle.meaning.specs.Output.{Limits, Sight, Last, last, ending_in, out, source, used_by, tail_of}
 
 abbrev IsGood : Ending → Type 0
@@ -56,11 +56,36 @@ good_steps ws env (fixed i ∷ steps) v path k s h = good_steps ws env steps v _
 good_steps ws env (worked at e x n ∷ steps) v path k s h = λ w. good_or_panic ws env at (element_of (int_of x) n) _ s (λ i. good_steps ws env steps v _ k s h) w
 
 good_settle : (ws : Ways) (env : Env) (a : Aim) (k : Then Spot) → GoodWays ws → GoodThen k → Good (settle ws env a k)
-good_settle ws env a k s h = λ w. good_steps ws env a.steps _ _ k s h w
+good_settle ws env a k s h = λ w. good_or_panic ws env _ (base_spot a.base) _ s (λ q. good_steps ws env a.steps q.variable q.path k s h) w
 
 good_when : (b : Bool) (g h : Go) → Good g → Good h → Good (when b g h)
 good_when true g h x y = x
 good_when false g h x y = y
+
+-- `append` and `copy`
+good_first : (n : ℕ) (v : Value) (k : Then (List Value)) → GoodThen k → Good (read_first n v k)
+good_first zero v k h = h []
+good_first (suc n) v k h = λ w. h _ w
+
+good_behind : (n : ℕ) (v : Value) (xs : List Value) (g : Go) → Good g → Good (write_behind n v xs g)
+good_behind n v [] g h = h
+good_behind n v (x ∷ xs) g h = λ w. h _
+
+good_within : (v : Value) (xs : List Value) (k : Then Value) → GoodThen k → Good (add_within v xs k)
+good_within v xs k h = good_behind (slice_count v) v xs _ (h _)
+
+good_regrow : (around : Setting) (entry site : ℕ) (v : Value) (room : ℕ) (k : Then Value) → GoodThen k → Good (regrow around entry site v room k)
+good_regrow around entry site v room k h =
+    λ w. let new = slice_in (length w.store) [] 0 (slice_count v) room in good_first (slice_count v) v (λ old. write_behind 0 new old (k new)) (λ old. good_behind 0 new old (k new) (h new)) _
+
+good_add : (around : Setting) (entry site : ℕ) (v : Value) (xs : List Value) (k : Then Value) → GoodThen k → Good (add_to around entry site v xs k)
+good_add around entry site v [] k h = h v
+good_add around entry site v (x ∷ xs) k h =
+    good_when (nat_le (slice_count v + length (x ∷ xs)) (slice_room v)) _ _ (good_within v (x ∷ xs) k h)
+    (good_regrow around entry site v (max (slice_count v + length (x ∷ xs)) (2 * slice_room v)) (λ r. add_within r (x ∷ xs) k) (λ r. good_within r (x ∷ xs) k h))
+
+good_copy : (n : ℕ) (d v : Value) (g : Go) → Good g → Good (copy_first n d v g)
+good_copy n d v g h = good_first n v _ (λ xs. good_behind 0 d xs g h)
 
 -- what calls do ends well, where what follows them does
 record GoodCalls (calls : Calls) : Type 0 where
@@ -76,6 +101,9 @@ module _ (around : Setting) (calls : Calls) (gc : GoodCalls calls) where
     good_aim : (q : Pl) (ws : Ways) (env : Env) (k : Then Aim) → GoodWays ws → GoodThen k → Good (aim around calls q ws env k)
     good_aim (local site steps) ws env k s h = good_walk steps ws env _ s (λ r. h _)
     good_aim (global g steps) ws env k s h = good_walk steps ws env _ s (λ r. h _)
+    good_aim (indirect at e n steps) ws env k s h = good_ev e ws env _ s (λ v. good_walk steps (holding ws e v) env _ (good_holding ws e v s) (λ r. h _))
+    good_aim (slice_element at e i n steps) ws env k s h =
+        good_ev e ws env _ s (λ v. good_ev i (holding ws e v) env _ (good_holding ws e v s) (λ u. good_walk steps (holding (holding ws e v) i u) env _ (good_holding (holding ws e v) i u (good_holding ws e v s)) (λ r. h _)))
 
     good_ev : (e : Ex) (ws : Ways) (env : Env) (k : Then Value) → GoodWays ws → GoodThen k → Good (ev around calls e ws env k)
     good_ev (constant v) ws env k s h = λ w. h v w
@@ -88,6 +116,34 @@ module _ (around : Setting) (calls : Calls) (gc : GoodCalls calls) where
     good_ev (call f es) ws env k s h = good_evs es ws env _ s (λ vs w. gc.by f vs ws env _ s (λ rs w1. h _ w1) w)
     good_ev (part_of t i e) ws env k s h = good_ev e ws env _ s (λ v w. h _ w)
     good_ev (literal t es) ws env k s h = λ w. good_fill es _ ws env _ s (λ v w1. h v w1) w
+    good_ev (nil n) ws env k s h = λ w. h _ w
+    good_ev (address_of q) ws env k s h = good_aim q ws env _ s (λ a. good_settle ws env a _ s (λ spot w. h _ w))
+    good_ev (new_variable site) ws env k s h = λ w. h _ _
+    good_ev (literal_variable site e) ws env k s h = good_ev e ws env _ s (λ v w. h _ _)
+    good_ev (slice_literal site es) ws env k s h = good_evs es ws env _ s (λ vs w. h _ _)
+    good_ev (make at site count room) ws env k s h =
+        good_ev count ws env _ s (λ v. good_bound room v (holding ws count v) env _ (good_holding ws count v s) (λ u w. good_or_panic ws env at (sizes_of (int_of v) (int_of u)) _ s (λ z w1. h _ _) w))
+    good_ev (append site e es) ws env k s h =
+        good_ev e ws env _ s (λ v. good_evs es (holding ws e v) env _ (good_holding ws e v s) (λ vs w. good_add around ws.call site v vs (give ws (append site e es) k) (λ x w1. h x w1) w))
+    good_ev (append_slice site e f) ws env k s h =
+        good_ev e ws env _ s (λ v. good_ev f (holding ws e v) env _ (good_holding ws e v s) (λ u w. good_first (slice_count u) u _ (λ vs. good_add around ws.call site v vs (give ws (append_slice site e f) k) (λ x w1. h x w1)) w))
+    good_ev (copy n e f) ws env k s h =
+        good_ev e ws env _ s (λ d. good_ev f (holding ws e d) env _ (good_holding ws e d s) (λ v w. good_copy (copy_count d v) d v _ (λ w1. h _ w1) w))
+    good_ev (slicing at n e low high) ws env k s h =
+        good_ev e ws env _ s (λ v. good_bound low _ (holding ws e v) env _ (good_holding ws e v s) (λ l.
+        good_bound high _ (holding_all (holding ws e v) (bound_values ws.call low l)) env _ (good_holding_all (holding ws e v) (bound_values ws.call low l) (good_holding ws e v s)) (λ b w.
+        good_or_panic ws env at (slice_part v (int_of l) (int_of b)) (give ws (slicing at n e low high) k) s (λ x w1. h x w1) w)))
+    good_ev (array_slicing at q n low high) ws env k s h =
+        good_aim q ws env _ s (λ a. good_settle ws env a _ s (λ spot.
+        let held = holding ws (address_of q) (pointer spot.variable spot.path) in let good = good_holding ws (address_of q) (pointer spot.variable spot.path) s in
+        good_bound low _ held env _ good (λ l. good_bound high _ (holding_all held (bound_values ws.call low l)) env _ (good_holding_all held (bound_values ws.call low l) good) (λ b w.
+        good_or_panic ws env at (array_part spot.variable spot.path n (int_of l) (int_of b)) (give ws (array_slicing at q n low high) k) s (λ x w1. h x w1) w))))
+    good_ev (len e) ws env k s h = good_ev e ws env _ s (λ v w. h _ w)
+    good_ev (cap e) ws env k s h = good_ev e ws env _ s (λ v w. h _ w)
+
+    good_bound : (b : Bound) (v : Value) (ws : Ways) (env : Env) (k : Then Value) → GoodWays ws → GoodThen k → Good (ev_bound around calls b v ws env k)
+    good_bound absent v ws env k s h = h v
+    good_bound (bound e) v ws env k s h = good_ev e ws env k s h
 
     good_fill : (es : Elements) (x : Value) (ws : Ways) (env : Env) (k : Then Value) → GoodWays ws → GoodThen k → Good (fill around calls es x ws env k)
     good_fill no_elements x ws env k s h = h x
@@ -183,10 +239,13 @@ good_quit ws env at (pos n) s = status_of n (nat_lt n 126) refl ws env at s
 good_quit ws env at (negsuc n) s = s.panicked at _ env
 
 module _ (around : Setting) (calls : Calls) (gc : GoodCalls calls) (fuel : ℕ) where
-  good_begin : (over : Over) (ws : Ways) (env : Env) (k : ℕ → Ways → Env → Go) → GoodWays ws → ((n : ℕ) (ws1 : Ways) (env1 : Env) → GoodWays ws1 → Good (k n ws1 env1)) → Good (begin_range around calls fuel over ws env k)
-  good_begin (over_int e) ws env k s h = good_ev around calls gc e ws env _ s (λ v w. h _ (holding ws e v) env (good_holding ws e v s) w)
-  good_begin (over_length x) ws env k s h = λ w. h x ws env s w
-  good_begin (over_copy site e x) ws env k s h = good_ev around calls gc e ws env _ s (λ v w. h x ws _ s _)
+  good_begin : (over : Over) (ws : Ways) (env : Env) (k : ℕ → Value → Ways → Env → Go) → GoodWays ws → ((n : ℕ) (v : Value) (ws1 : Ways) (env1 : Env) → GoodWays ws1 → Good (k n v ws1 env1)) → Good (begin_range around calls fuel over ws env k)
+  good_begin (over_int e) ws env k s h = good_ev around calls gc e ws env _ s (λ v w. h _ v (holding ws e v) env (good_holding ws e v s) w)
+  good_begin (over_length x) ws env k s h = λ w. h x _ ws env s w
+  good_begin (over_copy site e x) ws env k s h = good_ev around calls gc e ws env _ s (λ v w. h x v ws _ s _)
+  good_begin (over_slice e t) ws env k s h = good_ev around calls gc e ws env _ s (λ v w. h _ v (holding ws e v) env (good_holding ws e v s) w)
+  good_begin (over_pointer at e x t) ws env k s h = good_ev around calls gc e ws env _ s (λ v w. h x v (holding ws e v) env (good_holding ws e v s) w)
+  good_begin (over_pointed x) ws env k s h = λ w. h x _ ws env s w
 
   -- a round of `range`, where its body ends well
   module _ (body : Ways → Env → (Env → Go) → Go) (b : (ws : Ways) (env : Env) (k : Env → Go) → GoodWays ws → ((env1 : Env) → Good (k env1)) → Good (body ws env k)) (out : ℕ → Env → Go) (o : (n : ℕ) (env : Env) → Good (out n env)) where
@@ -199,16 +258,25 @@ module _ (around : Setting) (calls : Calls) (gc : GoodCalls calls) (fuel : ℕ) 
     good_index_round : (key : Left) (ws : Ways) → GoodWays ws → (i n : ℕ) (env : Env) (j : ℕ → Env → Go) → ((n1 : ℕ) (env1 : Env) → Good (j n1 env1)) → Good (index_round around calls fuel key body ws out i n env j)
     good_index_round key ws s i n env j g = good_ready around calls gc key ws env _ s (λ a. good_land around a _ ws env _ s (λ env1. good_loop ws s n j g env1))
 
-    good_element_round : (site : ℕ) (key value : Left) (ws : Ways) → GoodWays ws → (i n : ℕ) (env : Env) (j : ℕ → Env → Go) → ((n1 : ℕ) (env1 : Env) → Good (j n1 env1)) → Good (element_round around calls fuel site key value body ws out i n env j)
-    good_element_round site key value ws s i n env j g =
+    -- where what reads an element ends well
+    good_reading_round : (get : ℕ → Ways → Env → Then Value → Go) → ((i : ℕ) (ws : Ways) (env : Env) (k : Then Value) → GoodWays ws → GoodThen k → Good (get i ws env k)) → (key value : Left) (ws : Ways) → GoodWays ws → (i n : ℕ) (env : Env) (j : ℕ → Env → Go)
+        → ((n1 : ℕ) (env1 : Env) → Good (j n1 env1)) → Good (reading_round around calls fuel get key value body ws out i n env j)
+    good_reading_round get gets key value ws s i n env j g =
         good_ready_all around calls gc (key ∷ value ∷ []) ws env
-        (λ those ws1. read_part (home env site) (i ∷ []) (λ v. land_all around those (int (pos i) ∷ v ∷ []) ws env (λ env1. in_loop body ws (out n) (to_next_count n j) env1))) s
-        (λ those ws1 s1 w. good_land_all around those (int (pos i) ∷ read_at w (home env site) (i ∷ []) ∷ []) ws env (λ env1. in_loop body ws (out n) (to_next_count n j) env1) s (λ env1. good_loop ws s n j g env1) w)
+        (λ those ws1. get i ws env (λ v. land_all around those (int (pos i) ∷ v ∷ []) ws env (λ env1. in_loop body ws (out n) (to_next_count n j) env1))) s
+        (λ those ws1 s1. gets i ws env (λ v. land_all around those (int (pos i) ∷ v ∷ []) ws env (λ env1. in_loop body ws (out n) (to_next_count n j) env1)) s
+        (λ v. good_land_all around those (int (pos i) ∷ v ∷ []) ws env (λ env1. in_loop body ws (out n) (to_next_count n j) env1) s (λ env1. good_loop ws s n j g env1)))
 
-    good_round : (over : Over) (key value : Left) (ws : Ways) → GoodWays ws → (i n : ℕ) (env : Env) (j : ℕ → Env → Go) → ((n1 : ℕ) (env1 : Env) → Good (j n1 env1)) → Good (range_round around calls fuel over key value body ws out i n env j)
-    good_round (over_int e) key value ws s i n env j g = good_index_round key ws s i n env j g
-    good_round (over_length x) key value ws s i n env j g = good_index_round key ws s i n env j g
-    good_round (over_copy site e x) key value ws s i n env j g = good_element_round site key value ws s i n env j g
+    good_round : (over : Over) (x : Value) (key value : Left) (ws : Ways) → GoodWays ws → (i n : ℕ) (env : Env) (j : ℕ → Env → Go) → ((n1 : ℕ) (env1 : Env) → Good (j n1 env1)) → Good (range_round around calls fuel over x key value body ws out i n env j)
+    good_round (over_int e) x key value ws s i n env j g = good_index_round key ws s i n env j g
+    good_round (over_length m) x key value ws s i n env j g = good_index_round key ws s i n env j g
+    good_round (over_copy site e m) x key value ws s i n env j g = good_reading_round (read_copied site) (λ i1 ws1 env1 k s1 h w. h _ w) key value ws s i n env j g
+    good_round (over_slice e t) x key blank ws s i n env j g = good_index_round key ws s i n env j g
+    good_round (over_slice e t) x key value ws s i n env j g = good_reading_round (read_sliced x) (λ i1 ws1 env1 k s1 h w. h _ w) key value ws s i n env j g
+    good_round (over_pointer at e m t) x key blank ws s i n env j g = good_index_round key ws s i n env j g
+    good_round (over_pointer at e m t) x key value ws s i n env j g =
+        good_reading_round (read_pointed at x) (λ i1 ws1 env1 k s1 h. good_or_panic ws1 env1 at (pointed x) _ s1 (λ q w. h _ w)) key value ws s i n env j g
+    good_round (over_pointed m) x key value ws s i n env j g = good_index_round key ws s i n env j g
 
   mutual
     good_exec : (st : St) (ws : Ways) (env : Env) (k : Env → Go) → GoodWays ws → ((env1 : Env) → Good (k env1)) → Good (exec around calls fuel st ws env k)
@@ -237,8 +305,8 @@ module _ (around : Setting) (calls : Calls) (gc : GoodCalls calls) (fuel : ℕ) 
         good_aim around calls gc q ws env _ s (λ a. good_settle ws env a _ s (λ spot w.
         good_or_panic ws env at (binary_of op (read_at w spot.variable spot.path) (int (pos 1))) (λ x. write_part spot.variable spot.path x (k env)) s (λ x w1. h env (written w1 spot.variable spot.path x)) w))
     good_exec (range over key value body) ws env k s h =
-        good_begin over ws env _ s (λ x ws1 env1 s1 w. good_counted fuel 0 x _ _
-        (λ i n1 env2 j g. good_round (exec_all around calls fuel body) (λ ws2 env3 k2 s2 h2. good_exec_all body ws2 env3 k2 s2 h2) (outside k) (λ n2 env3 w2. h env3 w2) over key value ws1 s1 i n1 env2 j g)
+        good_begin over ws env _ s (λ x v ws1 env1 s1 w. good_counted fuel 0 x _ _
+        (λ i n1 env2 j g. good_round (exec_all around calls fuel body) (λ ws2 env3 k2 s2 h2. good_exec_all body ws2 env3 k2 s2 h2) (outside k) (λ n2 env3 w2. h env3 w2) over v key value ws1 s1 i n1 env2 j g)
         (λ n1 env2 w1. h env2 w1) (length w.store) env1 w)
     good_exec break_stmt ws env k s h = λ w. s.broken env w
     good_exec continue_stmt ws env k s h = λ w. s.continued env w

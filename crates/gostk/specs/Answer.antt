@@ -1,8 +1,8 @@
 -- The status and the line of each answer.
 use Rattle.std.specs.Prelude.{ℕ, ℤ, ◌≤◌, Bool, true, false, List, [], ◌++◌, codes, decimal, string_bytes}
 use Rattle.std.specs.Fmt.{signed_decimal}
-use Rattle.typed_syntax.specs.Value.{Value, int, bool, composite}
-use Rattle.meaning.specs.Trace.{Fault, divide_by_zero, shift_count, index_out_of_range, exit_code, raised_text, raised}
+use Rattle.typed_syntax.specs.Value.{Value, int, bool}
+use Rattle.meaning.specs.Trace.{Fault, divide_by_zero, shift_count, nil_dereference, index_out_of_range, slice_high, slice_low, make_length, make_capacity, exit_code, raised_text, raised}
 use Rattle.limits.specs.declared.limits.LimitFault.{LimitFault}
 use Rattle.limits.specs.Limits.{fault_number}
 use Rattle.gostk.specs.Refusal.{refusal_line}
@@ -83,12 +83,17 @@ reason_text (Truth b) = truth_text b
 abbrev pub value_text : Value → List ℕ
 value_text (int z) = signed_decimal z
 value_text (bool b) = truth_text b
-value_text (composite vs) = []
+value_text v = []
 
 abbrev pub fault_text : Fault → List ℕ
 fault_text divide_by_zero = codes "divide by zero"
 fault_text (shift_count n) = codes "shift count " ++ signed_decimal n
+fault_text nil_dereference = codes "nil pointer"
 fault_text (index_out_of_range index length) = index_text index length
+fault_text (slice_high high capacity) = numbers_text (codes "slice high ") high (codes " capacity ") capacity
+fault_text (slice_low low high) = numbers_text (codes "slice low ") low (codes " high ") high
+fault_text (make_length n) = codes "make length " ++ signed_decimal n
+fault_text (make_capacity capacity length) = numbers_text (codes "make capacity ") capacity (codes " length ") length
 fault_text (exit_code n) = codes "exit code " ++ signed_decimal n
 fault_text (raised_text bytes) = bytes
 fault_text (raised v) = value_text v

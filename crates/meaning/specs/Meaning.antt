@@ -1,14 +1,14 @@
 -- What a typed program does.
-use Rattle.std.specs.Prelude.{ℕ, zero, suc, ◌-◌, ℤ, pos, negsuc, Bool, true, false, List, [], ◌∷◌, ◌++◌, length, Option, Some, None, Result, Ok, Err, get_or, slice_get, if◌then◌else◌, nat_eq, nat_lt}
+use Rattle.std.specs.Prelude.{ℕ, zero, suc, ◌+◌, ◌*◌, ◌-◌, ℤ, pos, negsuc, Bool, true, false, List, [], ◌∷◌, ◌++◌, length, Option, Some, None, Result, Ok, Err, get_or, slice_get, if◌then◌else◌, nat_eq, nat_lt, nat_le, min, max}
 use Rattle.std.specs.Fmt.{signed_decimal}
 use Rattle.typed_syntax.specs.Positions.{Position}
-use Rattle.typed_syntax.specs.Types.{TypeTree, ints}
-use Rattle.typed_syntax.specs.Value.{Value, int, bool, composite, words, zero_of as zero_value}
+use Rattle.typed_syntax.specs.Types.{TypeTree, ints, array_of, width}
+use Rattle.typed_syntax.specs.Value.{Value, int, bool, composite, pointer, slice_in, words, words_in, zero_of as zero_value}
 use Rattle.typed_syntax.specs.Paths.{no_value, part, with_part}
-use Rattle.typed_syntax.specs.Syntax.{Ex, Exs, Pl, Steps, Left, Piece, Over, St, Sts, Func, Program, constant, read, unary, binary, logical_and, logical_or, call, part_of, literal, Elements, no_elements, element, none, more, results, read_int, local, global, here, inner, at_index, blank, new, to, text, shown, over_int, over_length, over_copy, declare, assign, update, bump, discard, block, if_stmt, for_stmt, range, break_stmt, continue_stmt, return_stmt, print, panic, exit, done, next, type_in}
-use Rattle.meaning.specs.Trace.{Entry, Call, Return, Born, Read, Write, Print, Asked, Fault, index_out_of_range, exit_code, raised_text, raised, Ending, Exit, Panic, World, Cell, Origin, of_ex, of_exs, Held, Mark, state, entered, ended, copied, Trace, Turn, Note, Seen, End, Cut}
-use Rattle.meaning.specs.Store.{read_at, written, born}
-use Rattle.meaning.specs.Operators.{unary_of, binary_of}
+use Rattle.typed_syntax.specs.Syntax.{Ex, Exs, Pl, Steps, Left, Piece, Over, St, Sts, Func, Program, constant, read, unary, binary, logical_and, logical_or, call, part_of, literal, nil, address_of, new_variable, literal_variable, slice_literal, make, append, append_slice, copy, slicing, array_slicing, len, cap, Bound, absent, bound, Elements, no_elements, element, none, more, results, read_int, local, global, indirect, slice_element, here, inner, at_index, blank, new, to, text, shown, over_int, over_length, over_copy, over_slice, over_pointer, over_pointed, declare, assign, update, bump, discard, block, if_stmt, for_stmt, range, break_stmt, continue_stmt, return_stmt, print, panic, exit, done, next, type_in}
+use Rattle.meaning.specs.Trace.{Entry, Call, Return, Born, Read, Write, Print, Asked, Fault, nil_dereference, index_out_of_range, exit_code, raised_text, raised, Ending, Exit, Panic, World, Cell, of_ex, of_exs, Held, Mark, state, entered, ended, copied, Trace, Turn, Note, Seen, End, Cut}
+use Rattle.meaning.specs.Store.{read_at, written, values_of, elements_at, elements_written, born}
+use Rattle.meaning.specs.Operators.{unary_of, binary_of, slice_variable, slice_path, slice_first, slice_count, slice_room, slice_part, array_part, sizes_of}
 
 -- what goes on from a state, and what goes on with something
 abbrev pub Go : Type 0
@@ -88,7 +88,14 @@ read_part v path k w = Note (Read v path (words (read_at w v path))) (k (read_at
 abbrev pub write_part : ℕ → List ℕ → Value → Go → Go
 write_part v path x g w = Note (Write v path (words x)) (g (written w v path x))
 
--- the type of a site's variables
+-- n elements of the array at a path of a variable, from one on, are read as one part, and so are some written
+abbrev pub read_elements : ℕ → List ℕ → (first n : ℕ) → Then (List Value) → Go
+read_elements v path first n k w = Note (Read v (path ++ first ∷ []) (words_in (values_of (elements_at w v path first n)))) (k (elements_at w v path first n) w)
+
+abbrev pub write_elements : ℕ → List ℕ → (first : ℕ) → List Value → Go → Go
+write_elements v path first xs g w = Note (Write v (path ++ first ∷ []) (words_in (values_of xs))) (g (elements_written w v path first xs))
+
+-- the type of a site's variables, and of the elements of its arrays
 abbrev pub site_type : Setting → ℕ → TypeTree
 site_type around site = get_or around.sites site ints
 
@@ -98,6 +105,10 @@ new_cell entry site t x = record { site = site; call = entry; type = t; value = 
 -- a new variable of a site, in the call with this number, of a type
 abbrev pub bear : (entry site : ℕ) → TypeTree → Value → Then ℕ → Go
 bear entry site t x k w = Note (Born site (words x)) (k (length w.store) (born w (new_cell entry site t x)))
+
+-- a new array of n elements; its words are those of its elements, so no value is made to count them
+abbrev pub bear_array : (entry site : ℕ) → TypeTree → (n : ℕ) → Value → Then ℕ → Go
+bear_array entry site t n x k w = Note (Born site (n * width t)) (k (length w.store) (born w (new_cell entry site (array_of n t) x)))
 
 -- the two results of `readInt`
 abbrev pub item_values : Item → List Value
@@ -157,6 +168,10 @@ branch v g h = when (is_true v) g h
 -- the operands of a place: where it begins, and the steps from there
 pub data Base : Type 0 where
   variable : ℕ → Base
+  -- what a pointer leads to, with the pointer's expression
+  through : Position → Ex → Value → Base
+  -- the element of a slice with an index, with the expressions of both
+  indexed : Position → (slice : Ex) → Value → (index : Ex) → Value → Base
 
 pub data Step : Type 0 where
   fixed : ℕ → Step
@@ -171,6 +186,10 @@ pub record Aim : Type 0 where
 pub record Spot : Type 0 where
   pub variable : ℕ
   pub path : List ℕ
+
+-- where no panic can be
+abbrev pub no_pos : Position
+no_pos = record { offset = 0; line = 0; col = 0 }
 
 abbrev pub int_of : Value → ℤ
 int_of (int z) = z
@@ -187,12 +206,82 @@ settle_steps ws env [] v path k = k (record { variable = v; path = path })
 settle_steps ws env (fixed i ∷ steps) v path k = settle_steps ws env steps v (path ++ i ∷ []) k
 settle_steps ws env (worked at e x n ∷ steps) v path k = turn (or_panic ws env at (element_of (int_of x) n) (λ i. settle_steps ws env steps v (path ++ i ∷ []) k))
 
-abbrev pub base_spot : Base → Spot
-base_spot (variable v) = record { variable = v; path = [] }
+-- where a pointer leads
+abbrev pub pointed : Value → Result Spot Fault
+pointed (pointer v path) = Ok (record { variable = v; path = path })
+pointed v = Err nil_dereference
 
--- a place takes its turn when its operands are known
+-- the element of a slice with this number
+abbrev pub element_spot : Value → Result ℕ Fault → Result Spot Fault
+element_spot s (Ok i) = Ok (record { variable = slice_variable s; path = slice_path s ++ (slice_first s + i) ∷ [] })
+element_spot s (Err f) = Err f
+
+-- where a place begins, or the fault, and the position that a panic names
+abbrev pub base_spot : Base → Result Spot Fault
+base_spot (variable v) = Ok (record { variable = v; path = [] })
+base_spot (through at e v) = pointed v
+base_spot (indexed at e s f i) = element_spot s (element_of (int_of i) (slice_count s))
+
+abbrev pub base_position : Base → Position
+base_position (variable v) = no_pos
+base_position (through at e v) = at
+base_position (indexed at e s f i) = at
+
+-- a place takes its turn when its operands are known, and is tested where it begins; its indices follow
 abbrev pub settle : Ways → Env → Aim → Then Spot → Go
-settle ws env a k = turn (settle_steps ws env a.steps (base_spot a.base).variable (base_spot a.base).path k)
+settle ws env a k = turn (or_panic ws env (base_position a.base) (base_spot a.base) (λ q. settle_steps ws env a.steps q.variable q.path k))
+
+-- the zero value of a site's type
+abbrev pub zero_of : Setting → ℕ → Value
+zero_of around site = zero_value (site_type around site)
+
+-- `append` and `copy`
+
+-- so many first elements of a slice
+abbrev pub read_first : (n : ℕ) → Value → Then (List Value) → Go
+read_first zero s k = k []
+read_first (suc n) s k = read_elements (slice_variable s) (slice_path s) (slice_first s) (suc n) k
+
+-- elements into a slice's array, so far behind the slice's first one
+abbrev pub write_behind : (n : ℕ) → Value → List Value → Go → Go
+write_behind n s [] g = g
+write_behind n s (x ∷ xs) g = write_elements (slice_variable s) (slice_path s) (slice_first s + n) (x ∷ xs) g
+
+-- a slice of so many more elements of the same array
+abbrev pub longer : Value → ℕ → Value
+longer s n = slice_in (slice_variable s) (slice_path s) (slice_first s) (slice_count s + n) (slice_room s)
+
+abbrev pub add_within : Value → List Value → Then Value → Go
+add_within s xs k = write_behind (slice_count s) s xs (k (longer s (length xs)))
+
+module _ (around : Setting) (entry site : ℕ) where
+  -- a new array of a site, of zeros
+  abbrev pub bear_zero_array : (n : ℕ) → Then ℕ → Go
+  bear_zero_array n k = bear_array entry site (site_type around site) n (zero_value (array_of n (site_type around site))) k
+
+  -- a new array gets the elements of a slice, with room for so many
+  abbrev pub regrow : Value → (room : ℕ) → Then Value → Go
+  regrow s room k =
+      bear_zero_array room (λ x. read_first (slice_count s) s (λ old. write_behind 0 (slice_in x [] 0 (slice_count s) room) old (k (slice_in x [] 0 (slice_count s) room))))
+
+  -- elements behind those of a slice: in its array where they have room there, and else in a new one
+  abbrev pub add_to : Value → List Value → Then Value → Go
+  add_to s [] k = k s
+  add_to s (x ∷ xs) k =
+      when (nat_le (slice_count s + length (x ∷ xs)) (slice_room s)) (add_within s (x ∷ xs) k)
+      (regrow s (max (slice_count s + length (x ∷ xs)) (2 * slice_room s)) (λ r. add_within r (x ∷ xs) k))
+
+-- how many elements `copy` moves
+abbrev pub copy_count : (target source : Value) → ℕ
+copy_count d s = min (slice_count d) (slice_count s)
+
+abbrev pub copy_first : (n : ℕ) → (target source : Value) → Go → Go
+copy_first n d s g = read_first n s (λ xs. write_behind 0 d xs g)
+
+-- the value of a bound that is there is held
+abbrev pub bound_values : (entry : ℕ) → Bound → Value → List Held
+bound_values entry absent v = []
+bound_values entry (bound e) v = held_from entry e v ∷ []
 
 -- expressions
 module _ (around : Setting) (calls : Calls) where
@@ -207,6 +296,9 @@ module _ (around : Setting) (calls : Calls) where
     aim (local site steps) ws env k = walk steps ws env (λ r. k (record { base = variable (home env site); steps = r }))
     -- the package variables are the first that are born
     aim (global g steps) ws env k = walk steps ws env (λ r. k (record { base = variable g; steps = r }))
+    aim (indirect at e n steps) ws env k = ev e ws env (λ v. walk steps (holding ws e v) env (λ r. k (record { base = through at e v; steps = r })))
+    aim (slice_element at e i n steps) ws env k =
+        ev e ws env (λ v. ev i (holding ws e v) env (λ u. walk steps (holding (holding ws e v) i u) env (λ r. k (record { base = indexed at e v i u; steps = r }))))
 
     pub ev : Ex → Ways → Env → Then Value → Go
     ev (constant v) ws env k = turn (give ws (constant v) k v)
@@ -218,6 +310,39 @@ module _ (around : Setting) (calls : Calls) where
     ev (call f es) ws env k = evs es ws env (λ vs. turn (calls f vs ws env (λ rs. give ws (call f es) k (only_value rs))))
     ev (part_of n i e) ws env k = ev e ws env (λ v. turn (give ws (part_of n i e) k (part v i)))
     ev (literal n es) ws env k = turn (fill es (zero_value (type_in around.types n)) ws env (give ws (literal n es) k))
+    ev (nil n) ws env k = turn (give ws (nil n) k (zero_value (type_in around.types n)))
+    ev (address_of p) ws env k = aim p ws env (λ a. settle ws env a (λ q. give ws (address_of p) k (pointer q.variable q.path)))
+    ev (new_variable site) ws env k = turn (bear ws.call site (site_type around site) (zero_of around site) (λ x. give ws (new_variable site) k (pointer x [])))
+    ev (literal_variable site e) ws env k = ev e ws env (λ v. turn (bear ws.call site (site_type around site) v (λ x. give ws (literal_variable site e) k (pointer x []))))
+    ev (slice_literal site es) ws env k =
+        evs es ws env (λ vs. turn (bear_array ws.call site (site_type around site) (length vs) (composite (values_of vs)) (λ x.
+        give ws (slice_literal site es) k (slice_in x [] 0 (length vs) (length vs)))))
+    -- without a capacity it is the length
+    ev (make at site count room) ws env k =
+        ev count ws env (λ v. ev_bound room v (holding ws count v) env (λ u. turn (or_panic ws env at (sizes_of (int_of v) (int_of u)) (λ z.
+        bear_zero_array around ws.call site z.room (λ x. give ws (make at site count room) k (slice_in x [] 0 z.count z.room))))))
+    ev (append site e es) ws env k = ev e ws env (λ s. evs es (holding ws e s) env (λ vs. turn (add_to around ws.call site s vs (give ws (append site e es) k))))
+    -- what is added is read before a new array is born
+    ev (append_slice site e f) ws env k =
+        ev e ws env (λ s. ev f (holding ws e s) env (λ u. turn (read_first (slice_count u) u (λ vs. add_to around ws.call site s vs (give ws (append_slice site e f) k)))))
+    ev (copy n e f) ws env k = ev e ws env (λ d. ev f (holding ws e d) env (λ s. turn (copy_first (copy_count d s) d s (give ws (copy n e f) k (int (pos (copy_count d s)))))))
+    -- without a low bound it is 0, and without a high one the length
+    ev (slicing at n e low high) ws env k =
+        ev e ws env (λ s. ev_bound low (int (pos 0)) (holding ws e s) env (λ l.
+        ev_bound high (int (pos (slice_count s))) (holding_all (holding ws e s) (bound_values ws.call low l)) env (λ h.
+        turn (or_panic ws env at (slice_part s (int_of l) (int_of h)) (give ws (slicing at n e low high) k)))))
+    -- the place's address is held
+    ev (array_slicing at p n low high) ws env k =
+        aim p ws env (λ a. settle ws env a (λ q. ev_bound low (int (pos 0)) (holding ws (address_of p) (pointer q.variable q.path)) env (λ l.
+        ev_bound high (int (pos n)) (holding_all (holding ws (address_of p) (pointer q.variable q.path)) (bound_values ws.call low l)) env (λ h.
+        turn (or_panic ws env at (array_part q.variable q.path n (int_of l) (int_of h)) (give ws (array_slicing at p n low high) k))))))
+    ev (len e) ws env k = ev e ws env (λ v. turn (give ws (len e) k (int (pos (slice_count v)))))
+    ev (cap e) ws env k = ev e ws env (λ v. turn (give ws (cap e) k (int (pos (slice_room v)))))
+
+    -- a bound, or this where there is none
+    pub ev_bound : Bound → Value → Ways → Env → Then Value → Go
+    ev_bound absent v ws env k = k v
+    ev_bound (bound e) v ws env k = ev e ws env k
 
     -- elements of a literal, each of which replaces a part of what stands so far
     pub fill : Elements → Value → Ways → Env → Then Value → Go
@@ -244,6 +369,8 @@ step_values entry (worked at e x n ∷ steps) = step_values entry steps ++ held_
 
 abbrev pub base_values : (entry : ℕ) → Base → List Held
 base_values entry (variable v) = []
+base_values entry (through at e v) = held_from entry e v ∷ []
+base_values entry (indexed at e s f i) = held_from entry f i ∷ (held_from entry e s ∷ [])
 
 abbrev pub aim_values : (entry : ℕ) → Aim → List Held
 aim_values entry a = step_values entry a.steps ++ base_values entry a.base
@@ -276,9 +403,6 @@ module _ (around : Setting) where
   land_all (l ∷ ls) (v ∷ vs) ws env k = land l v ws env (λ env1. land_all ls vs ws env1 k)
 
 -- new variables with the zero values of their types
-abbrev pub zero_of : Setting → ℕ → Value
-zero_of around site = zero_value (site_type around site)
-
 abbrev pub bear_zeros : Setting → (entry : ℕ) → List ℕ → Env → (Env → Go) → Go
 bear_zeros around entry [] env k = k env
 bear_zeros around entry (site ∷ sites) env k = turn (bear entry site (site_type around site) (zero_of around site) (λ x. bear_zeros around entry sites (with_home env site x) k))
@@ -288,7 +412,7 @@ abbrev pub shown_bytes : Value → List ℕ
 shown_bytes (int z) = signed_decimal z
 shown_bytes (bool true) = 116 ∷ 114 ∷ 117 ∷ 101 ∷ []
 shown_bytes (bool false) = 102 ∷ 97 ∷ 108 ∷ 115 ∷ 101 ∷ []
-shown_bytes (composite vs) = []
+shown_bytes v = []
 
 -- the first has no space before it, and without a newline there is none at all
 abbrev pub emit_more : List (List ℕ) → Go → Go
@@ -351,6 +475,17 @@ to_next around n sites post ws j env = mark (ended n) (births (λ n1. renew arou
 abbrev pub to_next_count : ℕ → (ℕ → Env → Go) → Env → Go
 to_next_count n j env = mark (ended n) (births (λ n1. j n1 env))
 
+-- an element that `range` reads, by its number: of the copy of an array, of a slice, and of the array that a pointer leads to; where it
+-- leads nowhere, the first read is a panic
+abbrev pub read_copied : (site i : ℕ) → Ways → Env → Then Value → Go
+read_copied site i ws env k = read_part (home env site) (i ∷ []) k
+
+abbrev pub read_sliced : Value → (i : ℕ) → Ways → Env → Then Value → Go
+read_sliced s i ws env k = read_part (slice_variable s) (slice_path s ++ (slice_first s + i) ∷ []) k
+
+abbrev pub read_pointed : Position → Value → (i : ℕ) → Ways → Env → Then Value → Go
+read_pointed at v i ws env k = or_panic ws env at (pointed v) (λ q. read_part q.variable (q.path ++ i ∷ []) k)
+
 -- how many rounds a number makes
 abbrev pub count_of : Value → ℕ
 count_of (int (pos n)) = n
@@ -361,31 +496,40 @@ abbrev pub quit_with : Ways → Env → Position → ℤ → Go
 quit_with ws env at (pos n) = when (nat_lt n 126) (stop (Exit n)) (ws.panicked at (exit_code (pos n)) env)
 quit_with ws env at (negsuc n) = ws.panicked at (exit_code (negsuc n)) env
 
--- where no panic can be
-abbrev pub no_pos : Position
-no_pos = record { offset = 0; line = 0; col = 0 }
-
 module _ (around : Setting) (calls : Calls) (fuel : ℕ) where
-  -- how many rounds, and the ways in which what is gone over is held; of an array there is a copy where its elements are read
-  abbrev pub begin_range : Over → Ways → Env → (ℕ → Ways → Env → Go) → Go
-  begin_range (over_int e) ws env k = ev around calls e ws env (λ v. turn (k (count_of v) (holding ws e v) env))
-  begin_range (over_length x) ws env k = turn (k x ws env)
-  begin_range (over_copy site e x) ws env k = ev around calls e ws env (λ v. turn (bear ws.call site (site_type around site) v (λ y. turn (k x ws (with_home env site y)))))
+  -- how many rounds, what is gone over if it is worked out, and the ways in which it is held; of an array there is a copy where its
+  -- elements are read, and a slice is gone over as it is at the start
+  abbrev pub begin_range : Over → Ways → Env → (ℕ → Value → Ways → Env → Go) → Go
+  begin_range (over_int e) ws env k = ev around calls e ws env (λ v. turn (k (count_of v) v (holding ws e v) env))
+  begin_range (over_length x) ws env k = turn (k x no_value ws env)
+  begin_range (over_copy site e x) ws env k = ev around calls e ws env (λ v. turn (bear ws.call site (site_type around site) v (λ y. turn (k x v ws (with_home env site y)))))
+  begin_range (over_slice e t) ws env k = ev around calls e ws env (λ v. turn (k (slice_count v) v (holding ws e v) env))
+  begin_range (over_pointer at e x t) ws env k = ev around calls e ws env (λ v. turn (k x v (holding ws e v) env))
+  begin_range (over_pointed x) ws env k = turn (k x no_value ws env)
 
   -- one round with an index: the left side's operands, the left side, the body
   abbrev pub index_round : Left → (Ways → Env → (Env → Go) → Go) → Ways → (ℕ → Env → Go) → ℕ → ℕ → Env → (ℕ → Env → Go) → Go
   index_round key body ws out i n env j =
       ready around calls key ws env (λ a. land around a (int (pos i)) ws env (λ env1. in_loop body ws (out n) (to_next_count n j) env1))
 
-  -- and with an element of a copy, whose read takes no turn
-  abbrev pub element_round : ℕ → (key value : Left) → (Ways → Env → (Env → Go) → Go) → Ways → (ℕ → Env → Go) → ℕ → ℕ → Env → (ℕ → Env → Go) → Go
-  element_round site key value body ws out i n env j =
-      ready_all around calls (key ∷ value ∷ []) ws env (λ those ws1. read_part (home env site) (i ∷ []) (λ v. land_all around those (int (pos i) ∷ v ∷ []) ws env (λ env1. in_loop body ws (out n) (to_next_count n j) env1)))
+  -- and with an element, whose read takes no turn
+  abbrev pub reading_round : (ℕ → Ways → Env → Then Value → Go) → (key value : Left) → (Ways → Env → (Env → Go) → Go) → Ways → (ℕ → Env → Go) → ℕ → ℕ → Env → (ℕ → Env → Go) → Go
+  reading_round get key value body ws out i n env j =
+      ready_all around calls (key ∷ value ∷ []) ws env (λ those ws1. get i ws env (λ v. land_all around those (int (pos i) ∷ v ∷ []) ws env (λ env1. in_loop body ws (out n) (to_next_count n j) env1)))
 
-  abbrev pub range_round : Over → (key value : Left) → (Ways → Env → (Env → Go) → Go) → Ways → (ℕ → Env → Go) → ℕ → ℕ → Env → (ℕ → Env → Go) → Go
-  range_round (over_int e) key value = index_round key
-  range_round (over_length x) key value = index_round key
-  range_round (over_copy site e x) key value = element_round site key value
+  abbrev pub element_round : ℕ → (key value : Left) → (Ways → Env → (Env → Go) → Go) → Ways → (ℕ → Env → Go) → ℕ → ℕ → Env → (ℕ → Env → Go) → Go
+  element_round site = reading_round (read_copied site)
+
+  -- a round, by what is gone over; no element of a slice, or behind a pointer, is read for `_`
+  abbrev pub range_round : Over → Value → (key value : Left) → (Ways → Env → (Env → Go) → Go) → Ways → (ℕ → Env → Go) → ℕ → ℕ → Env → (ℕ → Env → Go) → Go
+  range_round (over_int e) v key value = index_round key
+  range_round (over_length x) v key value = index_round key
+  range_round (over_copy site e x) v key value = element_round site key value
+  range_round (over_slice e t) v key blank = index_round key
+  range_round (over_slice e t) v key value = reading_round (read_sliced v) key value
+  range_round (over_pointer at e x t) v key blank = index_round key
+  range_round (over_pointer at e x t) v key value = reading_round (read_pointed at v) key value
+  range_round (over_pointed x) v key value = index_round key
 
   abbrev mutual
     pub exec : St → Ways → Env → (Env → Go) → Go
@@ -401,7 +545,7 @@ module _ (around : Setting) (calls : Calls) (fuel : ℕ) where
     exec (for_stmt sites test post body) ws env k =
         births (λ n. rounds fuel (test_of around calls test ws) (λ n1 env1 j. in_loop (exec_all body) ws (outside k n1) (to_next around n1 sites (exec_all post) ws j) env1) (outside k) (n - length sites) env)
     exec (range over key value body) ws env k =
-        begin_range over ws env (λ n ws1 env1. births (λ m. counted fuel 0 n (range_round over key value (exec_all body) ws1 (outside k)) (outside k) m env1))
+        begin_range over ws env (λ n v ws1 env1. births (λ m. counted fuel 0 n (range_round over v key value (exec_all body) ws1 (outside k)) (outside k) m env1))
     exec break_stmt ws env k = turn (ws.broken env)
     exec continue_stmt ws env k = turn (ws.continued env)
     exec (return_stmt es) ws env k = evs around calls es ws env (λ vs. ws.returned vs env)

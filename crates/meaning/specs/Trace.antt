@@ -21,8 +21,16 @@ pub data Fault : Type 0 where
   divide_by_zero : Fault
   shift_count : (count : ℤ) → Fault
   exit_code : (code : ℤ) → Fault
-  -- an index, and the length of the array that has no such element
+  -- a pointer that leads nowhere is followed
+  nil_dereference : Fault
+  -- an index, and the length of the array or the slice that has no such element
   index_out_of_range : (index length : ℤ) → Fault
+  -- a high bound of a slicing that is not from 0 to the capacity, and a low one that is not from 0 to the high one
+  slice_high : (high capacity : ℤ) → Fault
+  slice_low : (low high : ℤ) → Fault
+  -- a length of `make` that is not from 0 to 2^40, and a capacity that is not from the length to 2^40
+  make_length : (length : ℤ) → Fault
+  make_capacity : (capacity length : ℤ) → Fault
   -- `panic` with a string, and with a value
   raised_text : (bytes : List ℕ) → Fault
   raised : Value → Fault

@@ -1,13 +1,13 @@
 -- Under limits a run is the one without them, cut before the first entry that would pass one.
-use Rattle.std.proofs.Common.{◌≡◌, ◌⊎◌, inl, inr, ℕ, zero, suc, ◌+◌, ◌≤◌, List, [], ◌∷◌, ◌++◌, Option, Some, None, Bool, true, false, refl, sym, ap, ◌∙◌, subst}
+use Rattle.std.proofs.Common.{◌≡◌, ◌⊎◌, inl, inr, ℕ, zero, suc, ◌+◌, List, [], ◌∷◌, ◌++◌, Option, Some, None, true, false, refl, sym, ap, ◌∙◌, subst}
 use Rattle.std.specs.Prelude.{nat_le, if◌then◌else◌}
 use Rattle.simulation.specs.Outcome as Run
 use Rattle.simulation.specs.Outcome.{Lines, Outcome, Gives, Ends, Unfinished, upto}
-use Rattle.meaning.specs.Trace.{Entry, Call, Return, Born, Read, Write, Print, Asked, Ending, Turns, StackLimit, HeapLimit, Trace, Turn, Note, Seen, End, Cut}
+use Rattle.meaning.specs.Trace.{Entry, Call, Return, Born, Read, Write, Print, Asked, Ending, StackLimit, HeapLimit, Trace, Turn, Note, Seen, End, Cut}
 use Rattle.meaning.specs.Meaning.{trace}
-use Rattle.meaning.specs.Output.{Limits, used_by, tail_of}
+use Rattle.meaning.specs.Output.{Limits, used_by}
 use Rattle.meaning.specs.Journal.{entries, entries_within, with_entry, journal_in, bytes_in, asks_in, ending_of, meaning_of}
-use Rattle.meaning_laws.specs.Laws.{Begins, calls_with, heap_with, calls_after, heap_after, limit_at, Within, CutAt, LimitsCut}
+use Rattle.meaning_laws.specs.Laws.{Begins, calls_with, heap_with, calls_after, heap_after, limit_at, Within, LimitsCut}
 use Rattle.meaning_laws.proofs.Runs.{ask_begins}
 
 some_limit : {e : Ending} → None ≡ Some e → ⊥

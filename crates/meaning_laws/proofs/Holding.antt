@@ -1,20 +1,23 @@
 -- Each run of a program keeps each family: a line for each form of syntax.
 use Rattle.std.proofs.Common.{◌≡◌, refl, ℕ, zero, suc, ◌+◌, ◌-◌, ◌≤◌, List, [], ◌∷◌, ◌++◌, Option, Some, None, Result, Ok, Err, Bool, true, false, ℤ, pos, negsuc, subst, arith}
-use Rattle.std.specs.Prelude.{length, slice_get, nat_lt}
+use Rattle.std.specs.Prelude.{length, slice_get, nat_le, nat_lt}
 use Rattle.typed_syntax.specs.Positions.{Position}
-use Rattle.typed_syntax.specs.Types.{TypeTree}
-use Rattle.typed_syntax.specs.Value.{Value, int}
-use Rattle.typed_syntax.specs.Syntax.{Ex, Exs, Pl, Steps, Left, Piece, Over, St, Sts, Func, Program, constant, read, unary, binary, logical_and, logical_or, call, part_of, literal, Elements, no_elements, element, none, more, results, read_int, local, global, here, inner, at_index, blank, new, to, text, shown, over_int, over_length, over_copy, declare, assign, update, bump, discard, block, if_stmt, for_stmt, range, break_stmt, continue_stmt, return_stmt, print, panic, exit, done, next}
+use Rattle.typed_syntax.specs.Types.{TypeTree, array_of}
+use Rattle.typed_syntax.specs.Value.{Value, int, composite, pointer, slice_in}
+use Rattle.typed_syntax.specs.Syntax.{Ex, Exs, Pl, Steps, Left, Piece, Over, St, Sts, Func, Program, constant, read, unary, binary, logical_and, logical_or, call, part_of, literal, nil, address_of, new_variable, literal_variable, slice_literal, make, append, append_slice, copy, slicing, array_slicing, len, cap, Bound, absent, bound, Elements, no_elements, element, none, more, results, read_int, local, global, indirect, slice_element, here, inner, at_index, blank, new, to, text, shown, over_int, over_length, over_copy, over_slice, over_pointer, over_pointed, declare, assign, update, bump, discard, block, if_stmt, for_stmt, range, break_stmt, continue_stmt, return_stmt, print, panic, exit, done, next}
 use Rattle.meaning.specs.Trace.{Return, Fault, Exit, Panic, World, Mark, entered, ended, copied, Trace, Turn, Seen, Cut}
-use Rattle.meaning.specs.Store.{written, born, read_at}
-use Rattle.meaning.specs.Operators.{binary_of}
+use Rattle.meaning.specs.Store.{written, values_of, elements_written, born, read_at}
+use Rattle.meaning.specs.Operators.{binary_of, slice_variable, slice_path, slice_first, slice_count, slice_room, slice_part, array_part, sizes_of}
 use Rattle.meaning.specs.Meaning
-use Rattle.meaning.specs.Meaning.{Go, Then, Env, Ways, Calls, Item, Setting, Step, fixed, worked, Aim, Spot, Landing, nowhere, birth, on}
+use Rattle.meaning.specs.Meaning.{Go, Then, Env, Ways, Calls, Item, Setting, Base, Step, fixed, worked, Aim, Spot, Landing, nowhere, birth, on}
 use Rattle.meaning_laws.specs.Laws.{IsOther}
-use Rattle.meaning_laws.proofs.Later.{later_same, written_later, born_later}
+use Rattle.meaning_laws.proofs.Later.{later_same, written_later, elements_later, born_later}
 use Rattle.meaning_laws.proofs.Family.{Family, WaysHold, Pair, CallsHold, turning, noting, seeing, keeping, keeping_all, lower, looping, ways_fewer}
 
 module _ (F : Family) where
+  give_holds : {b : ℕ} (ws us : Ways) (e : Ex) (k j : Then Value) → ((v : Value) (w : World) → F.Holds b w (k v w) (j v w)) → (v : Value) (w : World) → F.Holds b w (Meaning.give ws e k v w) (Meaning.give us e j v w)
+  give_holds ws us e k j h v w = seeing F (h v w)
+
   give_all_holds : {b : ℕ} (ws us : Ways) (es : Exs) (k j : Then (List Value)) → ((vs : List Value) (w : World) → F.Holds b w (k vs w) (j vs w)) → (vs : List Value) (w : World) → F.Holds b w (Meaning.give_all ws es k vs w) (Meaning.give_all us es j vs w)
   give_all_holds ws us es k j h vs w = seeing F (h vs w)
 
@@ -27,8 +30,14 @@ module _ (F : Family) where
   write_holds : {b : ℕ} (v : ℕ) (path : List ℕ) (x : Value) (g h : Go) → ((w : World) → F.Holds b w (g w) (h w)) → (w : World) → F.Holds b w (Meaning.write_part v path x g w) (Meaning.write_part v path x h w)
   write_holds v path x g h all w = noting F (F.later _ w _ _ _ (written_later w v path x) (all (written w v path x)))
 
+  write_elements_holds : {b : ℕ} (v : ℕ) (path : List ℕ) (first : ℕ) (xs : List Value) (g h : Go) → ((w : World) → F.Holds b w (g w) (h w)) → (w : World) → F.Holds b w (Meaning.write_elements v path first xs g w) (Meaning.write_elements v path first xs h w)
+  write_elements_holds v path first xs g h all w = noting F (F.later _ w _ _ _ (elements_later w v path first xs) (all (elements_written w v path first xs)))
+
   bear_holds : {b : ℕ} (entry site : ℕ) (t : TypeTree) (x : Value) (k j : Then ℕ) → ((v : ℕ) (w : World) → F.Holds b w (k v w) (j v w)) → (w : World) → F.Holds b w (Meaning.bear entry site t x k w) (Meaning.bear entry site t x j w)
   bear_holds entry site t x k j all w = noting F (F.later _ w _ _ _ (born_later w (Meaning.new_cell entry site t x)) (all (length w.store) (born w (Meaning.new_cell entry site t x))))
+
+  bear_array_holds : {b : ℕ} (entry site : ℕ) (t : TypeTree) (n : ℕ) (x : Value) (k j : Then ℕ) → ((v : ℕ) (w : World) → F.Holds b w (k v w) (j v w)) → (w : World) → F.Holds b w (Meaning.bear_array entry site t n x k w) (Meaning.bear_array entry site t n x j w)
+  bear_array_holds entry site t n x k j all w = noting F (F.later _ w _ _ _ (born_later w (Meaning.new_cell entry site (array_of n t) x)) (all (length w.store) (born w (Meaning.new_cell entry site (array_of n t) x))))
 
   ask_holds : {b : ℕ} (around : Setting) (k j : Then (List Value)) → ((vs : List Value) (w : World) → F.Holds b w (k vs w) (j vs w)) → (w : World) → F.Holds b w (Meaning.ask around k w) (Meaning.ask around j w)
   ask_holds around k j all w = noting F (F.later _ w _ _ _ (later_same w) (all (Meaning.item_values (around.items w.reads)) (record { store = w.store; reads = suc w.reads })))
@@ -47,7 +56,46 @@ module _ (F : Family) where
   steps_hold (worked at e x n ∷ steps) v path p env k j all w = turning F (or_panic_holds p env at (Meaning.element_of (Meaning.int_of x) n) _ _ (λ i. steps_hold steps v (path ++ i ∷ []) p env k j all) w)
 
   settle_holds : {limit b : ℕ} (a : Aim) (p : Pair F limit b) (env : Env) (k j : Then Spot) → ((q : Spot) (w : World) → F.Holds b w (k q w) (j q w)) → (w : World) → F.Holds b w (Meaning.settle p.left env a k w) (Meaning.settle p.right env a j w)
-  settle_holds a p env k j all w = turning F (steps_hold a.steps _ _ p env k j all w)
+  settle_holds a p env k j all w = turning F (or_panic_holds p env _ (Meaning.base_spot a.base) _ _ (λ q. steps_hold a.steps q.variable q.path p env k j all) w)
+
+  -- `append` and `copy`
+  first_holds : {b : ℕ} (n : ℕ) (s : Value) (k j : Then (List Value)) → ((vs : List Value) (w : World) → F.Holds b w (k vs w) (j vs w)) → (w : World) → F.Holds b w (Meaning.read_first n s k w) (Meaning.read_first n s j w)
+  first_holds zero s k j all w = all [] w
+  first_holds (suc n) s k j all w = noting F (all _ w)
+
+  behind_holds : {b : ℕ} (n : ℕ) (s : Value) (xs : List Value) (g h : Go) → ((w : World) → F.Holds b w (g w) (h w)) → (w : World) → F.Holds b w (Meaning.write_behind n s xs g w) (Meaning.write_behind n s xs h w)
+  behind_holds n s [] g h all w = all w
+  behind_holds n s (x ∷ xs) g h all w = write_elements_holds (slice_variable s) (slice_path s) (slice_first s + n) (x ∷ xs) g h all w
+
+  copy_holds : {b : ℕ} (n : ℕ) (d s : Value) (g h : Go) → ((w : World) → F.Holds b w (g w) (h w)) → (w : World) → F.Holds b w (Meaning.copy_first n d s g w) (Meaning.copy_first n d s h w)
+  copy_holds n d s g h all w = first_holds n s _ _ (λ xs. behind_holds 0 d xs g h all) w
+
+  within_holds : {b : ℕ} (s : Value) (xs : List Value) (k j : Then Value) → ((v : Value) (w : World) → F.Holds b w (k v w) (j v w)) → (w : World) → F.Holds b w (Meaning.add_within s xs k w) (Meaning.add_within s xs j w)
+  within_holds s xs k j all w = behind_holds (slice_count s) s xs _ _ (all (Meaning.longer s (length xs))) w
+
+  -- in the running call, which both runs have in common
+  module _ (around : Setting) {limit b : ℕ} (p : Pair F limit b) (site : ℕ) where
+    born_here : (x : Value) (k j : Then ℕ) → ((v : ℕ) (w : World) → F.Holds b w (k v w) (j v w)) → (w : World)
+        → F.Holds b w (Meaning.bear p.left.call site (Meaning.site_type around site) x k w) (Meaning.bear p.right.call site (Meaning.site_type around site) x j w)
+    born_here x k j h w = subst (λ c. F.Holds b w (Meaning.bear p.left.call site (Meaning.site_type around site) x k w) (Meaning.bear c site (Meaning.site_type around site) x j w)) p.same
+        (bear_holds p.left.call site (Meaning.site_type around site) x k j h w)
+
+    array_born_here : (n : ℕ) (x : Value) (k j : Then ℕ) → ((v : ℕ) (w : World) → F.Holds b w (k v w) (j v w)) → (w : World)
+        → F.Holds b w (Meaning.bear_array p.left.call site (Meaning.site_type around site) n x k w) (Meaning.bear_array p.right.call site (Meaning.site_type around site) n x j w)
+    array_born_here n x k j h w = subst (λ c. F.Holds b w (Meaning.bear_array p.left.call site (Meaning.site_type around site) n x k w) (Meaning.bear_array c site (Meaning.site_type around site) n x j w)) p.same
+        (bear_array_holds p.left.call site (Meaning.site_type around site) n x k j h w)
+
+    regrow_holds : (s : Value) (room : ℕ) (k j : Then Value) → ((v : Value) (w : World) → F.Holds b w (k v w) (j v w)) → (w : World)
+        → F.Holds b w (Meaning.regrow around p.left.call site s room k w) (Meaning.regrow around p.right.call site s room j w)
+    regrow_holds s room k j h w =
+        array_born_here room _ _ _ (λ x. first_holds (slice_count s) s _ _ (λ old. behind_holds 0 (slice_in x [] 0 (slice_count s) room) old _ _ (h (slice_in x [] 0 (slice_count s) room)))) w
+
+    add_holds : (s : Value) (xs : List Value) (k j : Then Value) → ((v : Value) (w : World) → F.Holds b w (k v w) (j v w)) → (w : World)
+        → F.Holds b w (Meaning.add_to around p.left.call site s xs k w) (Meaning.add_to around p.right.call site s xs j w)
+    add_holds s [] k j h w = h s w
+    add_holds s (x ∷ xs) k j h w =
+        when_holds (nat_le (slice_count s + length (x ∷ xs)) (slice_room s)) _ _ _ _ w (within_holds s (x ∷ xs) k j h w)
+        (regrow_holds s _ _ _ (λ r. within_holds r (x ∷ xs) k j h) w)
 
   module _ (around : Setting) (calls dalls : Calls) (n m : ℕ) (le : n ≤ m) (hc : CallsHold F n calls dalls) where
     call_holds : {b : ℕ} (p : Pair F (suc n) b) (f : ℕ) (vs : List Value) (env : Env) (k j : Then (List Value)) → ((rs : List Value) (w : World) → F.Holds b w (k rs w) (j rs w)) → (w : World) → F.Holds b w (Turn (calls f vs p.left env k w)) (Turn (dalls f vs p.right env j w))
@@ -64,6 +112,8 @@ module _ (F : Family) where
       aim_holds : (q : Pl) {b : ℕ} (p : Pair F (suc n) b) (env : Env) (k j : Then Aim) → ((a : Aim) (w : World) → F.Holds b w (k a w) (j a w)) → (w : World) → F.Holds b w (Meaning.aim around calls q p.left env k w) (Meaning.aim around dalls q p.right env j w)
       aim_holds (local site steps) p env k j h w = walk_holds steps p env _ _ (λ r. h _) w
       aim_holds (global g steps) p env k j h w = walk_holds steps p env _ _ (λ r. h _) w
+      aim_holds (indirect at e x steps) p env k j h w = ev_holds e p env _ _ (λ v. walk_holds steps (keeping F e v p) env _ _ (λ r. h _)) w
+      aim_holds (slice_element at e i x steps) p env k j h w = ev_holds e p env _ _ (λ v. ev_holds i (keeping F e v p) env _ _ (λ y. walk_holds steps (keeping F i y (keeping F e v p)) env _ _ (λ r. h _))) w
 
       ev_holds : (e : Ex) {b : ℕ} (p : Pair F (suc n) b) (env : Env) (k j : Then Value) → ((v : Value) (w : World) → F.Holds b w (k v w) (j v w)) → (w : World) → F.Holds b w (Meaning.ev around calls e p.left env k w) (Meaning.ev around dalls e p.right env j w)
       ev_holds (constant v) p env k j h w = turning F (seeing F (h v w))
@@ -75,6 +125,36 @@ module _ (F : Family) where
       ev_holds (call f es) p env k j h w = evs_hold es p env _ _ (λ vs. call_holds p f vs env _ _ (λ rs u. seeing F (h _ u))) w
       ev_holds (part_of number i e) p env k j h w = ev_holds e p env _ _ (λ v u. turning F (seeing F (h _ u))) w
       ev_holds (literal number es) p env k j h w = turning F (fill_holds es _ p env _ _ (λ v u. seeing F (h v u)) w)
+      ev_holds (nil number) p env k j h w = turning F (seeing F (h _ w))
+      ev_holds (address_of q) p env k j h w = aim_holds q p env _ _ (λ a. settle_holds a p env _ _ (λ s u. seeing F (h _ u))) w
+      ev_holds (new_variable site) p env k j h w = let e = new_variable site in
+          turning F (born_here around p site (Meaning.zero_of around site) (λ x. Meaning.give p.left e k (pointer x [])) (λ x. Meaning.give p.right e j (pointer x [])) (λ x. give_holds p.left p.right e k j h (pointer x [])) w)
+      ev_holds (literal_variable site e) p env k j h w = let f = literal_variable site e in
+          ev_holds e p env _ _ (λ v u. turning F (born_here around p site v (λ x. Meaning.give p.left f k (pointer x [])) (λ x. Meaning.give p.right f j (pointer x [])) (λ x. give_holds p.left p.right f k j h (pointer x [])) u)) w
+      ev_holds (slice_literal site es) p env k j h w = let f = slice_literal site es in
+          evs_hold es p env _ _ (λ vs u. let s : ℕ → Value = λ x. slice_in x [] 0 (length vs) (length vs) in
+          turning F (array_born_here around p site (length vs) (composite (values_of vs)) (λ x. Meaning.give p.left f k (s x)) (λ x. Meaning.give p.right f j (s x)) (λ x. give_holds p.left p.right f k j h (s x)) u)) w
+      ev_holds (make at site count room) p env k j h w = let f = make at site count room in
+          ev_holds count p env _ _ (λ v. bound_holds room v (keeping F count v p) env _ _ (λ y u. turning F (or_panic_holds p env at (sizes_of (Meaning.int_of v) (Meaning.int_of y)) _ _ (λ z. let s : ℕ → Value = λ x. slice_in x [] 0 z.count z.room in
+          array_born_here around p site z.room _ (λ x. Meaning.give p.left f k (s x)) (λ x. Meaning.give p.right f j (s x)) (λ x. give_holds p.left p.right f k j h (s x))) u))) w
+      ev_holds (append site e es) p env k j h w = ev_holds e p env _ _ (λ s. evs_hold es (keeping F e s p) env _ _ (λ vs u. turning F (add_holds around p site s vs _ _ (λ v z. seeing F (h v z)) u))) w
+      ev_holds (append_slice site e f) p env k j h w =
+          ev_holds e p env _ _ (λ s. ev_holds f (keeping F e s p) env _ _ (λ y u. turning F (first_holds (slice_count y) y _ _ (λ vs. add_holds around p site s vs _ _ (λ v z. seeing F (h v z))) u))) w
+      ev_holds (copy number e f) p env k j h w =
+          ev_holds e p env _ _ (λ d. ev_holds f (keeping F e d p) env _ _ (λ s u. turning F (copy_holds (Meaning.copy_count d s) d s _ _ (λ z. seeing F (h _ z)) u))) w
+      ev_holds (slicing at number e low high) p env k j h w =
+          ev_holds e p env _ _ (λ s. bound_holds low _ (keeping F e s p) env _ _ (λ l. bound_holds high _ (keeping_all F (Meaning.bound_values p.left.call low l) (Meaning.bound_values p.right.call low l) (keeping F e s p)) env _ _ (λ g u.
+          turning F (or_panic_holds p env at (slice_part s (Meaning.int_of l) (Meaning.int_of g)) _ _ (λ y z. seeing F (h y z)) u)))) w
+      ev_holds (array_slicing at q size low high) p env k j h w =
+          aim_holds q p env _ _ (λ a. settle_holds a p env _ _ (λ s. let kept = keeping F (address_of q) (pointer s.variable s.path) p in
+          bound_holds low _ kept env _ _ (λ l. bound_holds high _ (keeping_all F (Meaning.bound_values p.left.call low l) (Meaning.bound_values p.right.call low l) kept) env _ _ (λ g u.
+          turning F (or_panic_holds p env at (array_part s.variable s.path size (Meaning.int_of l) (Meaning.int_of g)) _ _ (λ y z. seeing F (h y z)) u))))) w
+      ev_holds (len e) p env k j h w = ev_holds e p env _ _ (λ v u. turning F (seeing F (h _ u))) w
+      ev_holds (cap e) p env k j h w = ev_holds e p env _ _ (λ v u. turning F (seeing F (h _ u))) w
+
+      bound_holds : (o : Bound) (x : Value) {b : ℕ} (p : Pair F (suc n) b) (env : Env) (k j : Then Value) → ((v : Value) (w : World) → F.Holds b w (k v w) (j v w)) → (w : World) → F.Holds b w (Meaning.ev_bound around calls o x p.left env k w) (Meaning.ev_bound around dalls o x p.right env j w)
+      bound_holds absent x p env k j h w = h x w
+      bound_holds (bound e) x p env k j h w = ev_holds e p env k j h w
 
       fill_holds : (es : Elements) (x : Value) {b : ℕ} (p : Pair F (suc n) b) (env : Env) (k j : Then Value) → ((v : Value) (w : World) → F.Holds b w (k v w) (j v w)) → (w : World) → F.Holds b w (Meaning.fill around calls es x p.left env k w) (Meaning.fill around dalls es x p.right env j w)
       fill_holds no_elements x p env k j h w = h x w
@@ -97,9 +177,8 @@ module _ (F : Family) where
 
     land_holds : (l : Landing) (v : Value) {b : ℕ} (p : Pair F (suc n) b) (env : Env) (k j : Env → Go) → ((e : Env) (w : World) → F.Holds b w (k e w) (j e w)) → (w : World) → F.Holds b w (Meaning.land around l v p.left env k w) (Meaning.land around l v p.right env j w)
     land_holds nowhere v p env k j h w = h env w
-    land_holds (birth site) v {b} p env k j h w =
-        turning F (subst (λ c. F.Holds b w (Meaning.bear p.left.call site (Meaning.site_type around site) v (λ x. k (Meaning.with_home env site x)) w) (Meaning.bear c site (Meaning.site_type around site) v (λ x. j (Meaning.with_home env site x)) w)) p.same
-        (bear_holds p.left.call site (Meaning.site_type around site) v (λ x. k (Meaning.with_home env site x)) (λ x. j (Meaning.with_home env site x)) (λ x. h (Meaning.with_home env site x)) w))
+    land_holds (birth site) v p env k j h w =
+        turning F (born_here around p site v (λ x. k (Meaning.with_home env site x)) (λ x. j (Meaning.with_home env site x)) (λ x. h (Meaning.with_home env site x)) w)
     land_holds (on a) v p env k j h w = settle_holds a p env _ _ (λ s. write_holds s.variable s.path v _ _ (h env)) w
 
     land_all_hold : (ls : List Landing) (vs : List Value) {b : ℕ} (p : Pair F (suc n) b) (env : Env) (k j : Env → Go) → ((e : Env) (w : World) → F.Holds b w (k e w) (j e w)) → (w : World) → F.Holds b w (Meaning.land_all around ls vs p.left env k w) (Meaning.land_all around ls vs p.right env j w)
@@ -161,12 +240,13 @@ module _ (F : Family) where
     test_holds None p env k j h w = h _ w
     test_holds (Some e) p env k j h w = ev_holds e p env _ _ (λ v u. turning F (h v u)) w
 
-    begin_holds : (o : Over) {b : ℕ} (p : Pair F (suc n) b) (env : Env) (k j : ℕ → Ways → Env → Go) → ((x : ℕ) (q : Pair F (suc n) b) (e : Env) (w : World) → F.Holds b w (k x q.left e w) (j x q.right e w)) → (w : World) → F.Holds b w (Meaning.begin_range around calls (suc n) o p.left env k w) (Meaning.begin_range around dalls (suc m) o p.right env j w)
-    begin_holds (over_int e) p env k j h w = ev_holds e p env _ _ (λ v u. turning F (h _ (keeping F e v p) env u)) w
-    begin_holds (over_length x) p env k j h w = turning F (h x p env w)
-    begin_holds (over_copy site e x) {b} p env k j h w = ev_holds e p env _ _ (λ v u.
-        turning F (subst (λ c. F.Holds b u (Meaning.bear p.left.call site (Meaning.site_type around site) v (λ y. Meaning.turn (k x p.left (Meaning.with_home env site y))) u) (Meaning.bear c site (Meaning.site_type around site) v (λ y. Meaning.turn (j x p.right (Meaning.with_home env site y))) u)) p.same
-        (bear_holds p.left.call site (Meaning.site_type around site) v _ _ (λ y z. turning F (h x p (Meaning.with_home env site y) z)) u))) w
+    begin_holds : (o : Over) {b : ℕ} (p : Pair F (suc n) b) (env : Env) (k j : ℕ → Value → Ways → Env → Go) → ((x : ℕ) (v : Value) (q : Pair F (suc n) b) (e : Env) (w : World) → F.Holds b w (k x v q.left e w) (j x v q.right e w)) → (w : World) → F.Holds b w (Meaning.begin_range around calls (suc n) o p.left env k w) (Meaning.begin_range around dalls (suc m) o p.right env j w)
+    begin_holds (over_int e) p env k j h w = ev_holds e p env _ _ (λ v u. turning F (h _ v (keeping F e v p) env u)) w
+    begin_holds (over_length x) p env k j h w = turning F (h x _ p env w)
+    begin_holds (over_copy site e x) p env k j h w = ev_holds e p env _ _ (λ v u. turning F (born_here around p site v _ _ (λ y z. turning F (h x v p (Meaning.with_home env site y) z)) u)) w
+    begin_holds (over_slice e t) p env k j h w = ev_holds e p env _ _ (λ v u. turning F (h _ v (keeping F e v p) env u)) w
+    begin_holds (over_pointer at e x t) p env k j h w = ev_holds e p env _ _ (λ v u. turning F (h x v (keeping F e v p) env u)) w
+    begin_holds (over_pointed x) p env k j h w = turning F (h x _ p env w)
 
     quit_holds : (z : ℤ) {b : ℕ} (p : Pair F (suc n) b) (env : Env) (at : Position) (w : World) → F.Holds b w (Meaning.quit_with p.left env at z w) (Meaning.quit_with p.right env at z w)
     quit_holds (pos x) p env at w = when_holds (nat_lt x 126) _ _ _ _ w (F.ends _ w (Exit x)) (p.hold.panicked at _ env w)
@@ -187,20 +267,30 @@ module _ (F : Family) where
         let again : (e : Env) (u : World) → F.Holds b u (Meaning.to_next_count v k e u) (Meaning.to_next_count v j e u) = λ e u. marking (ended v) tt (h (length u.store) e u) in
         ready_holds key p env _ _ (λ a. land_holds a (int (pos i)) p env _ _ (λ e1. hb.by (looping F p (out v) (nout v) _ _ (ho v) again) e1 _ _ again)) w
 
-    element_round_holds : (site : ℕ) (key value : Left) (body nody : Part) (i : ℕ) {b : ℕ} → PartHolds b body nody → (p : Pair F (suc n) b) (out nout : ℕ → Env → Go) → ((u : ℕ) (e : Env) (w : World) → F.Holds b w (out u e w) (nout u e w)) → (v : ℕ) (env : Env) (k j : ℕ → Env → Go) → ((u : ℕ) (e : Env) (w : World) → F.Holds b w (k u e w) (j u e w)) → (w : World) →
-        F.Holds b w (Meaning.element_round around calls (suc n) site key value body p.left out i v env k w) (Meaning.element_round around dalls (suc m) site key value nody p.right nout i v env j w)
-    element_round_holds site key value body nody i {b} hb p out nout ho v env k j h w =
+    -- what reads an element
+    record GetHolds (b : ℕ) (get : ℕ → Ways → Env → Then Value → Go) : Type 0 where
+      by : (i : ℕ) (p : Pair F (suc n) b) (env : Env) (k j : Then Value) → ((v : Value) (w : World) → F.Holds b w (k v w) (j v w)) → (w : World) → F.Holds b w (get i p.left env k w) (get i p.right env j w)
+
+    reading_round_holds : (get : ℕ → Ways → Env → Then Value → Go) (key value : Left) (body nody : Part) (i : ℕ) {b : ℕ} → GetHolds b get → PartHolds b body nody → (p : Pair F (suc n) b) (out nout : ℕ → Env → Go) → ((u : ℕ) (e : Env) (w : World) → F.Holds b w (out u e w) (nout u e w)) → (v : ℕ) (env : Env) (k j : ℕ → Env → Go) → ((u : ℕ) (e : Env) (w : World) → F.Holds b w (k u e w) (j u e w)) → (w : World) →
+        F.Holds b w (Meaning.reading_round around calls (suc n) get key value body p.left out i v env k w) (Meaning.reading_round around dalls (suc m) get key value nody p.right nout i v env j w)
+    reading_round_holds get key value body nody i {b} hg hb p out nout ho v env k j h w =
         let again : (e : Env) (u : World) → F.Holds b u (Meaning.to_next_count v k e u) (Meaning.to_next_count v j e u) = λ e u. marking (ended v) tt (h (length u.store) e u) in
         ready_all_hold (key ∷ value ∷ []) p env
-        (λ those ws1. Meaning.read_part (Meaning.home env site) (i ∷ []) (λ y. Meaning.land_all around those (int (pos i) ∷ y ∷ []) p.left env (λ env1. Meaning.in_loop body p.left (out v) (Meaning.to_next_count v k) env1)))
-        (λ those ws1. Meaning.read_part (Meaning.home env site) (i ∷ []) (λ y. Meaning.land_all around those (int (pos i) ∷ y ∷ []) p.right env (λ env1. Meaning.in_loop nody p.right (nout v) (Meaning.to_next_count v j) env1)))
-        (λ those q u. noting F (land_all_hold those (int (pos i) ∷ read_at u (Meaning.home env site) (i ∷ []) ∷ []) p env _ _ (λ e1. hb.by (looping F p (out v) (nout v) _ _ (ho v) again) e1 _ _ again) u)) w
+        (λ those ws1. get i p.left env (λ y. Meaning.land_all around those (int (pos i) ∷ y ∷ []) p.left env (λ env1. Meaning.in_loop body p.left (out v) (Meaning.to_next_count v k) env1)))
+        (λ those ws1. get i p.right env (λ y. Meaning.land_all around those (int (pos i) ∷ y ∷ []) p.right env (λ env1. Meaning.in_loop nody p.right (nout v) (Meaning.to_next_count v j) env1)))
+        (λ those q. hg.by i p env _ _ (λ y. land_all_hold those (int (pos i) ∷ y ∷ []) p env _ _ (λ e1. hb.by (looping F p (out v) (nout v) _ _ (ho v) again) e1 _ _ again))) w
 
-    round_holds : (over : Over) (key value : Left) (body nody : Part) (i : ℕ) {b : ℕ} → PartHolds b body nody → (p : Pair F (suc n) b) (out nout : ℕ → Env → Go) → ((u : ℕ) (e : Env) (w : World) → F.Holds b w (out u e w) (nout u e w)) → (v : ℕ) (env : Env) (k j : ℕ → Env → Go) → ((u : ℕ) (e : Env) (w : World) → F.Holds b w (k u e w) (j u e w)) → (w : World) →
-        F.Holds b w (Meaning.range_round around calls (suc n) over key value body p.left out i v env k w) (Meaning.range_round around dalls (suc m) over key value nody p.right nout i v env j w)
-    round_holds (over_int e) key value body nody i hb p out nout ho v env k j h w = index_round_holds key body nody i hb p out nout ho v env k j h w
-    round_holds (over_length x) key value body nody i hb p out nout ho v env k j h w = index_round_holds key body nody i hb p out nout ho v env k j h w
-    round_holds (over_copy site e x) key value body nody i hb p out nout ho v env k j h w = element_round_holds site key value body nody i hb p out nout ho v env k j h w
+    round_holds : (over : Over) (x : Value) (key value : Left) (body nody : Part) (i : ℕ) {b : ℕ} → PartHolds b body nody → (p : Pair F (suc n) b) (out nout : ℕ → Env → Go) → ((u : ℕ) (e : Env) (w : World) → F.Holds b w (out u e w) (nout u e w)) → (v : ℕ) (env : Env) (k j : ℕ → Env → Go) → ((u : ℕ) (e : Env) (w : World) → F.Holds b w (k u e w) (j u e w)) → (w : World) →
+        F.Holds b w (Meaning.range_round around calls (suc n) over x key value body p.left out i v env k w) (Meaning.range_round around dalls (suc m) over x key value nody p.right nout i v env j w)
+    round_holds (over_int e) x key value body nody i hb p out nout ho v env k j h w = index_round_holds key body nody i hb p out nout ho v env k j h w
+    round_holds (over_length size) x key value body nody i hb p out nout ho v env k j h w = index_round_holds key body nody i hb p out nout ho v env k j h w
+    round_holds (over_copy site e size) x key value body nody i hb p out nout ho v env k j h w = reading_round_holds (Meaning.read_copied site) key value body nody i (record { by = λ i q e1 k1 j1 h1 u. noting F (h1 _ u) }) hb p out nout ho v env k j h w
+    round_holds (over_slice e t) x key blank body nody i hb p out nout ho v env k j h w = index_round_holds key body nody i hb p out nout ho v env k j h w
+    round_holds (over_slice e t) x key value body nody i hb p out nout ho v env k j h w = reading_round_holds (Meaning.read_sliced x) key value body nody i (record { by = λ i q e1 k1 j1 h1 u. noting F (h1 _ u) }) hb p out nout ho v env k j h w
+    round_holds (over_pointer at e size t) x key blank body nody i hb p out nout ho v env k j h w = index_round_holds key body nody i hb p out nout ho v env k j h w
+    round_holds (over_pointer at e size t) x key value body nody i hb p out nout ho v env k j h w =
+        reading_round_holds (Meaning.read_pointed at x) key value body nody i (record { by = λ i q e1 k1 j1 h1 u. or_panic_holds q e1 at (Meaning.pointed x) _ _ (λ s z. noting F (h1 _ z)) u }) hb p out nout ho v env k j h w
+    round_holds (over_pointed size) x key value body nody i hb p out nout ho v env k j h w = index_round_holds key body nody i hb p out nout ho v env k j h w
 
     zeros_hold : (sites : List ℕ) {b : ℕ} (entry : ℕ) (env : Env) (k j : Env → Go) → ((e : Env) (w : World) → F.Holds b w (k e w) (j e w)) → (w : World) → F.Holds b w (Meaning.bear_zeros around entry sites env k w) (Meaning.bear_zeros around entry sites env j w)
     zeros_hold [] entry env k j h w = h env w
@@ -223,8 +313,8 @@ module _ (F : Family) where
           (λ c cb v e k1 j1 h1. around_hold _ _ _ _ sites (record { by = all_hold body }) (record { by = all_hold post }) (lower F p c cb) _ _ (λ e1 u. F.fewer c _ u _ _ cb (outside_holds k j h v e1 u)) v e k1 j1 h1)
           _ _ (outside_holds k j h) (suc n) (suc m) (omega arith) _ (omega arith) p.within (length w.store - length sites) env w
       exec_holds (range over key value body) p env k j h w =
-          begin_holds over p env _ _ (λ x q env1 u. counted_holds _ _
-          (λ c cb i v e k1 j1 h1. round_holds over key value _ _ i (record { by = all_hold body }) (lower F q c cb) _ _ (λ y e1 z. F.fewer c _ z _ _ cb (outside_holds k j h y e1 z)) v e k1 j1 h1)
+          begin_holds over p env _ _ (λ x y q env1 u. counted_holds _ _
+          (λ c cb i v e k1 j1 h1. round_holds over y key value _ _ i (record { by = all_hold body }) (lower F q c cb) _ _ (λ y e1 z. F.fewer c _ z _ _ cb (outside_holds k j h y e1 z)) v e k1 j1 h1)
           _ _ (outside_holds k j h) (suc n) (suc m) (omega arith) _ (omega arith) p.within 0 x (length u.store) env1 u) w
       exec_holds break_stmt p env k j h w = turning F (p.hold.broken env w)
       exec_holds continue_stmt p env k j h w = turning F (p.hold.continued env w)

@@ -4,7 +4,7 @@ use Rattle.std.specs.Prelude.{map}
 use Rattle.std.proofs.lemmas.List.{append_assoc}
 use Rattle.typed_syntax.specs.Value.{Value}
 use Rattle.meaning.specs.Trace.{World, Cell}
-use Rattle.meaning.specs.Store.{change, written, born}
+use Rattle.meaning.specs.Store.{change, written, elements_written, born}
 use Rattle.meaning_laws.specs.Laws.{Later, sites_in}
 
 abbrev site_list : List Cell → List ℕ
@@ -28,6 +28,13 @@ later_same w = ([], append_none (sites_in w))
 
 pub written_later : (w : World) (v : ℕ) (path : List ℕ) (x : Value) → Later w (written w v path x)
 written_later w v path x = ([], same_sites w.store v path x ∙ append_none (sites_in w))
+
+elements_same : (xs : List Value) (w : World) (v : ℕ) (path : List ℕ) (i : ℕ) → sites_in (elements_written w v path i xs) ≡ sites_in w
+elements_same [] w v path i = refl
+elements_same (x ∷ xs) w v path i = elements_same xs (written w v (path ++ i ∷ []) x) v path (suc i) ∙ same_sites w.store v (path ++ i ∷ []) x
+
+pub elements_later : (w : World) (v : ℕ) (path : List ℕ) (i : ℕ) (xs : List Value) → Later w (elements_written w v path i xs)
+elements_later w v path i xs = ([], elements_same xs w v path i ∙ append_none (sites_in w))
 
 pub born_later : (w : World) (c : Cell) → Later w (born w c)
 born_later w c = (c.site ∷ [], more_sites w.store c)

@@ -3,3 +3,5 @@ pub mod Family
 pub mod Holding
 pub mod Runs
 pub mod Cuts
+pub mod Named
+pub mod Pointing

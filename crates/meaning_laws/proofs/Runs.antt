@@ -6,9 +6,9 @@ use Rattle.simulation.specs.Outcome as Run
 use Rattle.simulation.specs.Outcome.{Lines, Outcome, Gives, Ends, Unfinished, upto, ending_in as last_in}
 use Rattle.meaning.specs.Trace.{Entry, Call, Return, Born, Read, Write, Print, Asked, Ending, Turns, StackLimit, HeapLimit, World, Mark, state, entered, ended, copied, Trace, Turn, Note, Seen, End, Cut}
 use Rattle.meaning.specs.Meaning.{whole, beginning, trace}
-use Rattle.meaning.specs.Output.{Limits, used_by, tail_of, Sight, Last, last, out, output}
-use Rattle.meaning.specs.Journal.{entries, entries_within, with_entry, journal_in, bytes_in, with_ask, asks_in, ending_of, meaning_of, printed}
-use Rattle.meaning_laws.specs.Laws.{Begins, Extends, LongerRunsExtend, LongerCappedExtend, LongerSourcesExtend, FuelIsEnough, settled, Shows, SourceShowsJournal, heap_after, heap_with, Under, Fuelled, Later, IsOther, Always, OnlyLater, VariablesStay}
+use Rattle.meaning.specs.Output.{Limits, used_by, tail_of, Sight, Last, last, out}
+use Rattle.meaning.specs.Journal.{entries, entries_within, with_entry, journal_in, bytes_in, with_ask, asks_in, ending_of, meaning_of}
+use Rattle.meaning_laws.specs.Laws.{Begins, Extends, LongerRunsExtend, LongerCappedExtend, LongerSourcesExtend, FuelIsEnough, Shows, SourceShowsJournal, heap_after, Under, Fuelled, Later, IsOther, Always, OnlyLater, VariablesStay}
 use Rattle.meaning_laws.proofs.Later.{later_same, later_trans}
 use Rattle.meaning_laws.proofs.Family.{Family}
 use Rattle.meaning_laws.proofs.Holding.{whole_holds}

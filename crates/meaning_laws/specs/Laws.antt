@@ -2,7 +2,7 @@
 use Rattle.std.specs.Prelude.{◌≡◌, ◌≢◌, ◌⊎◌, ℕ, zero, suc, ◌+◌, ◌≤◌, List, [], ◌∷◌, ◌++◌, Option, Some, None, map, nat_le, if◌then◌else◌}
 use Rattle.typed_syntax.specs.Syntax.{Program}
 use Rattle.simulation.specs.Outcome.{Outcome, Below, ending_in as last_in, upto}
-use Rattle.meaning.specs.Trace.{Entry, Call, Return, Born, Read, Write, Print, Asked, Ending, Turns, StackLimit, HeapLimit, World, Cell, Mark, state, entered, ended, copied, Trace, Turn, Note, Seen, End, Cut}
+use Rattle.meaning.specs.Trace.{Entry, Call, Return, Born, Ending, Turns, StackLimit, HeapLimit, World, Cell, Mark, state, entered, ended, copied, Trace, Turn, Note, Seen, End, Cut}
 use Rattle.meaning.specs.Meaning.{Item, whole, beginning, trace}
 use Rattle.meaning.specs.Output.{Limits, used_by, tail_of, Sight, Last, source, output, ending_in}
 use Rattle.meaning.specs.Journal.{Meaning, entries, mean, capped, printed}

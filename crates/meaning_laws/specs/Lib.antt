@@ -1,2 +1,3 @@
 -- What holds of every run: each law is the clause of a function of `laws`.
 pub mod Laws
+pub mod Pointers

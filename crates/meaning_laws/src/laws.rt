@@ -1,6 +1,7 @@
 //! Laws of the meaning. Each function carries one as its clause, and does nothing.
 
 ghost use Rattle.meaning_laws.specs.Laws.{FuelIsEnough, LimitsCut, LongerCappedExtend, LongerRunsExtend, LongerSourcesExtend, SourceShowsJournal, VariablesStay};
+ghost use Rattle.meaning_laws.specs.Pointers.{PointersNameVariables};
 
 /// A longer budget only extends the journal, and an ending other than by turns is kept.
 pub fn longer_runs_extend()
@@ -36,4 +37,10 @@ pub fn limits_cut()
 /// No variable dies or moves.
 pub fn variables_stay()
     ensures { VariablesStay }
+{}
+
+/// Pointers and slices name variables that are there, where the constants of the program's text and its package variables begin
+/// without any.
+pub fn pointers_name_variables()
+    ensures { PointersNameVariables }
 {}
