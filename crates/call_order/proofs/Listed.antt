@@ -4,9 +4,9 @@ use Rattle.std.proofs.lemmas.Option.{same_Some}
 use Rattle.components.specs.Graph.{Among, row, Reaches as Joins, itself as same, onward}
 use Rattle.components.proofs.Lists.{among_left, among_right, among_split}
 use Rattle.components.proofs.Joining.{reaches_edge}
-use Rattle.typed_syntax.specs.Syntax.{Ex, Exs, Pl, Steps, local, global, here, inner, at_index, Left, blank, new, to, Piece, Over, St, Sts, Func, Program, constant, read, unary, binary, logical_and, logical_or, call, part_of, literal, Elements, no_elements, element, none, more, results, read_int, text, shown, over_int, over_length, over_copy, declare, assign, update, bump, discard, block, if_stmt, for_stmt, range, break_stmt, continue_stmt, return_stmt, print, panic, exit, done, next}
-use Rattle.call_order.specs.Calls.{ExCalls, ExsCall, PlaceCalls, StepsCall, ElementsCall, LeftCalls, LeftsCall, PieceCalls, PiecesCall, TestCalls, OverCalls, StCalls, StsCall, Calls}
-use Rattle.call_order.specs.Lists.{called, called_all, called_in_place, called_in_steps, called_in_elements, called_in_left, called_in_lefts, called_in_piece, called_in_pieces, called_in_test, called_in_over, called_by, called_by_all, call_lists}
+use Rattle.typed_syntax.specs.Syntax.{Ex, Exs, Pl, Steps, local, global, indirect, slice_element, nil, address_of, new_variable, literal_variable, slice_literal, make, append, append_slice, copy, slicing, array_slicing, len, cap, Bound, absent, bound, here, inner, at_index, Left, blank, new, to, Piece, Over, St, Sts, Func, Program, constant, read, unary, binary, logical_and, logical_or, call, part_of, literal, Elements, no_elements, element, none, more, results, read_int, text, shown, over_int, over_length, over_copy, over_slice, over_pointer, over_pointed, declare, assign, update, bump, discard, block, if_stmt, for_stmt, range, break_stmt, continue_stmt, return_stmt, print, panic, exit, done, next}
+use Rattle.call_order.specs.Calls.{ExCalls, ExsCall, BoundCalls, PlaceCalls, StepsCall, ElementsCall, LeftCalls, LeftsCall, PieceCalls, PiecesCall, TestCalls, OverCalls, StCalls, StsCall, Calls}
+use Rattle.call_order.specs.Lists.{called, called_all, called_in_bound, called_in_place, called_in_steps, called_in_elements, called_in_left, called_in_lefts, called_in_piece, called_in_pieces, called_in_test, called_in_over, called_by, called_by_all, call_lists}
 use Rattle.call_order.specs.Order.{Reaches, itself, by_call}
 
 -- ---- lists side by side
@@ -36,10 +36,29 @@ mutual
   ex_calls (call f es) g c = first_or f g (called_all es) (exs_call es g) c
   ex_calls (part_of n i e) g c = ex_calls e g c
   ex_calls (literal n es) g c = elements_call es g c
+  ex_calls (nil n) g c = c
+  ex_calls (address_of q) g c = place_calls q g c
+  ex_calls (new_variable site) g c = c
+  ex_calls (literal_variable site e) g c = ex_calls e g c
+  ex_calls (slice_literal site es) g c = exs_call es g c
+  ex_calls (make at site count room) g c = apart (called count) (called_in_bound room) g (ex_calls count g) (bound_calls room g) c
+  ex_calls (append site e es) g c = apart (called e) (called_all es) g (ex_calls e g) (exs_call es g) c
+  ex_calls (append_slice site a b) g c = apart (called a) (called b) g (ex_calls a g) (ex_calls b g) c
+  ex_calls (copy n a b) g c = apart (called a) (called b) g (ex_calls a g) (ex_calls b g) c
+  ex_calls (slicing at n e low high) g c = apart (called e) (called_in_bound low ++ called_in_bound high) g (ex_calls e g) (λ d. apart (called_in_bound low) (called_in_bound high) g (bound_calls low g) (bound_calls high g) d) c
+  ex_calls (array_slicing at q n low high) g c = apart (called_in_place q) (called_in_bound low ++ called_in_bound high) g (place_calls q g) (λ d. apart (called_in_bound low) (called_in_bound high) g (bound_calls low g) (bound_calls high g) d) c
+  ex_calls (len e) g c = ex_calls e g c
+  ex_calls (cap e) g c = ex_calls e g c
+
+  bound_calls : (b : Bound) (g : ℕ) → Among g (called_in_bound b) → BoundCalls b g
+  bound_calls absent g c = c
+  bound_calls (bound e) g c = ex_calls e g c
 
   place_calls : (q : Pl) (g : ℕ) → Among g (called_in_place q) → PlaceCalls q g
   place_calls (local site steps) g c = steps_call steps g c
   place_calls (global number steps) g c = steps_call steps g c
+  place_calls (indirect at e n steps) g c = apart (called_in_steps steps) (called e) g (steps_call steps g) (ex_calls e g) c
+  place_calls (slice_element at e i n steps) g c = apart (called_in_steps steps) (called e ++ called i) g (steps_call steps g) (λ d. apart (called e) (called i) g (ex_calls e g) (ex_calls i g) d) c
 
   steps_call : (steps : Steps) (g : ℕ) → Among g (called_in_steps steps) → StepsCall steps g
   steps_call here g c = c
@@ -72,6 +91,9 @@ over_calls : (o : Over) (g : ℕ) → Among g (called_in_over o) → OverCalls o
 over_calls (over_int e) g c = ex_calls e g c
 over_calls (over_length x) g c = c
 over_calls (over_copy site e x) g c = ex_calls e g c
+over_calls (over_slice e n) g c = ex_calls e g c
+over_calls (over_pointer at e x n) g c = ex_calls e g c
+over_calls (over_pointed x) g c = c
 
 left_calls : (l : Left) (g : ℕ) → Among g (called_in_left l) → LeftCalls l g
 left_calls blank g c = c
@@ -118,10 +140,29 @@ mutual
   in_ex (call f es) g c = or_first f g (called_all es) (in_exs es g) c
   in_ex (part_of n i e) g c = in_ex e g c
   in_ex (literal n es) g c = in_elements es g c
+  in_ex (nil n) g c = c
+  in_ex (address_of q) g c = in_place q g c
+  in_ex (new_variable site) g c = c
+  in_ex (literal_variable site e) g c = in_ex e g c
+  in_ex (slice_literal site es) g c = in_exs es g c
+  in_ex (make at site count room) g c = joined (called count) (called_in_bound room) g (in_ex count g) (in_bound room g) c
+  in_ex (append site e es) g c = joined (called e) (called_all es) g (in_ex e g) (in_exs es g) c
+  in_ex (append_slice site a b) g c = joined (called a) (called b) g (in_ex a g) (in_ex b g) c
+  in_ex (copy n a b) g c = joined (called a) (called b) g (in_ex a g) (in_ex b g) c
+  in_ex (slicing at n e low high) g c = joined (called e) (called_in_bound low ++ called_in_bound high) g (in_ex e g) (λ d. joined (called_in_bound low) (called_in_bound high) g (in_bound low g) (in_bound high g) d) c
+  in_ex (array_slicing at q n low high) g c = joined (called_in_place q) (called_in_bound low ++ called_in_bound high) g (in_place q g) (λ d. joined (called_in_bound low) (called_in_bound high) g (in_bound low g) (in_bound high g) d) c
+  in_ex (len e) g c = in_ex e g c
+  in_ex (cap e) g c = in_ex e g c
+
+  in_bound : (b : Bound) (g : ℕ) → BoundCalls b g → Among g (called_in_bound b)
+  in_bound absent g c = c
+  in_bound (bound e) g c = in_ex e g c
 
   in_place : (q : Pl) (g : ℕ) → PlaceCalls q g → Among g (called_in_place q)
   in_place (local site steps) g c = in_steps steps g c
   in_place (global number steps) g c = in_steps steps g c
+  in_place (indirect at e n steps) g c = joined (called_in_steps steps) (called e) g (in_steps steps g) (in_ex e g) c
+  in_place (slice_element at e i n steps) g c = joined (called_in_steps steps) (called e ++ called i) g (in_steps steps g) (λ d. joined (called e) (called i) g (in_ex e g) (in_ex i g) d) c
 
   in_steps : (steps : Steps) (g : ℕ) → StepsCall steps g → Among g (called_in_steps steps)
   in_steps here g c = c
@@ -154,6 +195,9 @@ in_over : (o : Over) (g : ℕ) → OverCalls o g → Among g (called_in_over o)
 in_over (over_int e) g c = in_ex e g c
 in_over (over_length x) g c = c
 in_over (over_copy site e x) g c = in_ex e g c
+in_over (over_slice e n) g c = in_ex e g c
+in_over (over_pointer at e x n) g c = in_ex e g c
+in_over (over_pointed x) g c = c
 
 in_left : (l : Left) (g : ℕ) → LeftCalls l g → Among g (called_in_left l)
 in_left blank g c = c

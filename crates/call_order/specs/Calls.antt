@@ -1,6 +1,6 @@
 -- Which functions a function calls: a call counts wherever it stands in the text of the body.
 use Rattle.std.specs.Prelude.{◌≡◌, ◌⊎◌, ℕ, List, [], ◌∷◌, Option, Some, None, slice_get}
-use Rattle.typed_syntax.specs.Syntax.{Ex, Exs, Pl, Steps, local, global, here, inner, at_index, Left, blank, new, to, Piece, Over, St, Sts, Func, Program, constant, read, unary, binary, logical_and, logical_or, call, part_of, literal, Elements, no_elements, element, none, more, results, read_int, text, shown, over_int, over_length, over_copy, declare, assign, update, bump, discard, block, if_stmt, for_stmt, range, break_stmt, continue_stmt, return_stmt, print, panic, exit, done, next}
+use Rattle.typed_syntax.specs.Syntax.{Ex, Exs, Pl, Steps, local, global, indirect, slice_element, nil, address_of, new_variable, literal_variable, slice_literal, make, append, append_slice, copy, slicing, array_slicing, len, cap, Bound, absent, bound, here, inner, at_index, Left, blank, new, to, Piece, Over, St, Sts, Func, Program, constant, read, unary, binary, logical_and, logical_or, call, part_of, literal, Elements, no_elements, element, none, more, results, read_int, text, shown, over_int, over_length, over_copy, over_slice, over_pointer, over_pointed, declare, assign, update, bump, discard, block, if_stmt, for_stmt, range, break_stmt, continue_stmt, return_stmt, print, panic, exit, done, next}
 
 -- an expression, or some expressions, have a call of a function
 abbrev mutual
@@ -14,11 +14,31 @@ abbrev mutual
   ExCalls (call f es) g = (f ≡ g) ⊎ ExsCall es g
   ExCalls (part_of n i e) g = ExCalls e g
   ExCalls (literal n es) g = ElementsCall es g
+  ExCalls (nil n) g = ⊥
+  ExCalls (address_of q) g = PlaceCalls q g
+  ExCalls (new_variable site) g = ⊥
+  ExCalls (literal_variable site e) g = ExCalls e g
+  ExCalls (slice_literal site es) g = ExsCall es g
+  ExCalls (make at site count room) g = ExCalls count g ⊎ BoundCalls room g
+  ExCalls (append site e es) g = ExCalls e g ⊎ ExsCall es g
+  ExCalls (append_slice site a b) g = ExCalls a g ⊎ ExCalls b g
+  ExCalls (copy n a b) g = ExCalls a g ⊎ ExCalls b g
+  ExCalls (slicing at n e low high) g = ExCalls e g ⊎ (BoundCalls low g ⊎ BoundCalls high g)
+  ExCalls (array_slicing at q n low high) g = PlaceCalls q g ⊎ (BoundCalls low g ⊎ BoundCalls high g)
+  ExCalls (len e) g = ExCalls e g
+  ExCalls (cap e) g = ExCalls e g
 
-  -- the indices of a place, where they are worked out
+  -- a bound, if there is one
+  pub BoundCalls : Bound → ℕ → Type 0
+  BoundCalls absent g = ⊥
+  BoundCalls (bound e) g = ExCalls e g
+
+  -- the operands of a place
   pub PlaceCalls : Pl → ℕ → Type 0
   PlaceCalls (local site steps) g = StepsCall steps g
   PlaceCalls (global number steps) g = StepsCall steps g
+  PlaceCalls (indirect at e n steps) g = StepsCall steps g ⊎ ExCalls e g
+  PlaceCalls (slice_element at e i n steps) g = StepsCall steps g ⊎ (ExCalls e g ⊎ ExCalls i g)
 
   pub StepsCall : Steps → ℕ → Type 0
   StepsCall here g = ⊥
@@ -53,6 +73,9 @@ abbrev pub OverCalls : Over → ℕ → Type 0
 OverCalls (over_int e) g = ExCalls e g
 OverCalls (over_length x) g = ⊥
 OverCalls (over_copy site e x) g = ExCalls e g
+OverCalls (over_slice e n) g = ExCalls e g
+OverCalls (over_pointer at e x n) g = ExCalls e g
+OverCalls (over_pointed x) g = ⊥
 
 abbrev pub LeftCalls : Left → ℕ → Type 0
 LeftCalls blank g = ⊥

@@ -1,6 +1,6 @@
 -- The calls of a body as a list, in the order of the text.
 use Rattle.std.specs.Prelude.{ℕ, List, [], ◌∷◌, ◌++◌, Option, Some, None, map}
-use Rattle.typed_syntax.specs.Syntax.{Ex, Exs, Pl, Steps, local, global, here, inner, at_index, Left, blank, new, to, Piece, Over, St, Sts, Func, constant, read, unary, binary, logical_and, logical_or, call, part_of, literal, Elements, no_elements, element, none, more, results, read_int, text, shown, over_int, over_length, over_copy, declare, assign, update, bump, discard, block, if_stmt, for_stmt, range, break_stmt, continue_stmt, return_stmt, print, panic, exit, done, next}
+use Rattle.typed_syntax.specs.Syntax.{Ex, Exs, Pl, Steps, local, global, indirect, slice_element, nil, address_of, new_variable, literal_variable, slice_literal, make, append, append_slice, copy, slicing, array_slicing, len, cap, Bound, absent, bound, here, inner, at_index, Left, blank, new, to, Piece, Over, St, Sts, Func, constant, read, unary, binary, logical_and, logical_or, call, part_of, literal, Elements, no_elements, element, none, more, results, read_int, text, shown, over_int, over_length, over_copy, over_slice, over_pointer, over_pointed, declare, assign, update, bump, discard, block, if_stmt, for_stmt, range, break_stmt, continue_stmt, return_stmt, print, panic, exit, done, next}
 
 abbrev mutual
   pub called : Ex → List ℕ
@@ -13,11 +13,30 @@ abbrev mutual
   called (call f es) = f ∷ called_all es
   called (part_of n i e) = called e
   called (literal n es) = called_in_elements es
+  called (nil n) = []
+  called (address_of q) = called_in_place q
+  called (new_variable site) = []
+  called (literal_variable site e) = called e
+  called (slice_literal site es) = called_all es
+  called (make at site count room) = called count ++ called_in_bound room
+  called (append site e es) = called e ++ called_all es
+  called (append_slice site a b) = called a ++ called b
+  called (copy n a b) = called a ++ called b
+  called (slicing at n e low high) = called e ++ (called_in_bound low ++ called_in_bound high)
+  called (array_slicing at q n low high) = called_in_place q ++ (called_in_bound low ++ called_in_bound high)
+  called (len e) = called e
+  called (cap e) = called e
 
-  -- in the indices of a place, where they are worked out
+  pub called_in_bound : Bound → List ℕ
+  called_in_bound absent = []
+  called_in_bound (bound e) = called e
+
+  -- in the operands of a place; those of its indices come first, since the order is no matter
   pub called_in_place : Pl → List ℕ
   called_in_place (local site steps) = called_in_steps steps
   called_in_place (global number steps) = called_in_steps steps
+  called_in_place (indirect at e n steps) = called_in_steps steps ++ called e
+  called_in_place (slice_element at e i n steps) = called_in_steps steps ++ (called e ++ called i)
 
   pub called_in_steps : Steps → List ℕ
   called_in_steps here = []
@@ -50,6 +69,9 @@ abbrev pub called_in_over : Over → List ℕ
 called_in_over (over_int e) = called e
 called_in_over (over_length x) = []
 called_in_over (over_copy site e x) = called e
+called_in_over (over_slice e n) = called e
+called_in_over (over_pointer at e x n) = called e
+called_in_over (over_pointed x) = []
 
 abbrev pub called_in_left : Left → List ℕ
 called_in_left blank = []

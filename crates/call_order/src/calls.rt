@@ -2,12 +2,12 @@
 
 ghost use Rattle.std.specs.Prelude.{◌≡◌, [], ◌∷◌, ◌++◌, map, OnOk, IfOk};
 ghost use Rattle.components.specs.Graph.{rows};
-ghost use Rattle.typed.specs.View.{ex_of, exs_of, exs_of_values, place_of, steps_of, elements_of, left_of, piece_of, test_of, st_of, sts_of, program_of};
-ghost use Rattle.call_order.specs.Lists.{called, called_all, called_in_place, called_in_steps, called_in_elements, called_in_left, called_in_lefts, called_in_piece, called_in_pieces, called_in_test, called_by, called_by_all, call_lists};
+ghost use Rattle.typed.specs.View.{ex_of, exs_of, exs_of_values, place_of, bound_of, steps_of, elements_of, left_of, piece_of, test_of, st_of, sts_of, program_of};
+ghost use Rattle.call_order.specs.Lists.{called, called_all, called_in_bound, called_in_place, called_in_steps, called_in_elements, called_in_left, called_in_lefts, called_in_piece, called_in_pieces, called_in_test, called_by, called_by_all, call_lists};
 
 use base::NoMemory;
 use std::alloc::Global;
-use typed::{Element, Expr, Func, Left, Piece, Place, Program, Step, Stmt, Values};
+use typed::{Bound, Element, Expr, Func, Left, Piece, Place, Program, Step, Stmt, Values};
 
 /// Adds the calls in an expression.
 #[cycle(values)]
@@ -16,13 +16,21 @@ fn add_expr(calls: &mut Vec<u32>, e: &Expr) -> Result<(), NoMemory>
     ensures { OnOk result (calls.new.items ≡ calls.old.items ++ called (ex_of e.now)) }
 {
     match e {
-        Expr::Constant(_) => Ok(()),
-        Expr::Read(place) => add_place(calls, place),
-        Expr::Unary(_, a) | Expr::Part(_, _, a) => {
+        Expr::Constant(_) | Expr::Nil(_) | Expr::New(_) => Ok(()),
+        Expr::Read(place) | Expr::AddressOf(place) => add_place(calls, place),
+        Expr::Unary(_, a)
+        | Expr::Part(_, _, a)
+        | Expr::NewLiteral(_, a)
+        | Expr::Len(a)
+        | Expr::Cap(a) => {
             let a: &Expr = a;
             add_expr(calls, a)
         }
-        Expr::Binary(_, _, a, b) | Expr::LogicalAnd(a, b) | Expr::LogicalOr(a, b) => {
+        Expr::Binary(_, _, a, b)
+        | Expr::LogicalAnd(a, b)
+        | Expr::LogicalOr(a, b)
+        | Expr::AppendSlice(_, a, b)
+        | Expr::Copy(_, a, b) => {
             let a: &Expr = a;
             let b: &Expr = b;
             add_expr(calls, a)?;
@@ -34,10 +42,47 @@ fn add_expr(calls: &mut Vec<u32>, e: &Expr) -> Result<(), NoMemory>
             add_values(calls, arguments)
         }
         Expr::Literal(_, elements) => add_elements(calls, elements),
+        Expr::SliceLiteral(_, es) => add_exprs(calls, es),
+        Expr::Append(_, a, es) => {
+            let a: &Expr = a;
+            add_expr(calls, a)?;
+            add_exprs(calls, es)
+        }
+        Expr::Make(_, _, count, room) => {
+            let count: &Expr = count;
+            add_expr(calls, count)?;
+            add_bound(calls, room)
+        }
+        Expr::Slicing(_, _, a, low, high) => {
+            let a: &Expr = a;
+            add_expr(calls, a)?;
+            add_bound(calls, low)?;
+            add_bound(calls, high)
+        }
+        Expr::ArraySlicing(_, place, _, low, high) => {
+            add_place(calls, place)?;
+            add_bound(calls, low)?;
+            add_bound(calls, high)
+        }
     }
 }
 
-/// Adds the calls in the indices of a place.
+/// Adds the calls in a bound.
+#[cycle(values)]
+#[tactic(auto, using(typed::proofs::Rows::expr_rows))]
+fn add_bound(calls: &mut Vec<u32>, bound: &Bound) -> Result<(), NoMemory>
+    ensures { OnOk result (calls.new.items ≡ calls.old.items ++ called_in_bound (bound_of bound.now)) }
+{
+    match bound {
+        Bound::Absent => Ok(()),
+        Bound::At(e) => {
+            let e: &Expr = e;
+            add_expr(calls, e)
+        }
+    }
+}
+
+/// Adds the calls in the operands of a place.
 #[cycle(values)]
 #[tactic(auto, using(typed::proofs::Rows::expr_rows))]
 fn add_place(calls: &mut Vec<u32>, place: &Place) -> Result<(), NoMemory>
@@ -46,6 +91,18 @@ fn add_place(calls: &mut Vec<u32>, place: &Place) -> Result<(), NoMemory>
     match place {
         Place::Local(_, steps) => add_steps(calls, steps),
         Place::Global(_, steps) => add_steps(calls, steps),
+        Place::Indirect(_, e, _, steps) => {
+            let e: &Expr = e;
+            add_steps(calls, steps)?;
+            add_expr(calls, e)
+        }
+        Place::SliceElement(_, e, index, _, steps) => {
+            let e: &Expr = e;
+            let index: &Expr = index;
+            add_steps(calls, steps)?;
+            add_expr(calls, e)?;
+            add_expr(calls, index)
+        }
     }
 }
 
@@ -207,11 +264,13 @@ fn add_stmt(calls: &mut Vec<u32>, s: &Stmt) -> Result<(), NoMemory>
             add_pair(calls, key, &Left::Blank)?;
             add_stmts(calls, body)
         }
-        Stmt::Indices(_, key, body) => {
+        Stmt::Indices(_, key, body) | Stmt::PointedIndices(_, key, body) => {
             add_pair(calls, key, &Left::Blank)?;
             add_stmts(calls, body)
         }
-        Stmt::Elements(_, e, _, key, value, body) => {
+        Stmt::Elements(_, e, _, key, value, body)
+        | Stmt::SliceElements(e, _, key, value, body)
+        | Stmt::PointedElements(_, e, _, _, key, value, body) => {
             add_expr(calls, e)?;
             add_pair(calls, key, value)?;
             add_stmts(calls, body)

@@ -2,7 +2,7 @@
 use Rattle.std.proofs.Common.{◌≡◌, ℕ, ◌+◌, ◌<◌, List, [], ◌∷◌, ◌++◌, length, get_or, take, map, max, refl, ap, ◌∙◌, add-one, arith}
 use Rattle.std.proofs.Math.Seq.{take-suc}
 use Rattle.std.proofs.lemmas.List.{map-append}
-use Rattle.typed_syntax.specs.Syntax.{Steps, here, inner, at_index, Pl, local, global, Left, blank, new, to, Program}
+use Rattle.typed_syntax.specs.Syntax.{Steps, here, inner, at_index, Pl, local, global, indirect, slice_element, Left, blank, new, to, Program}
 use Rattle.typed.specs.declared.stmt.Left.{Left as LeftData}
 use Rattle.typed.specs.View.{left_of}
 use Rattle.frames.specs.Frames.{steps_reach, place_reach, lefts_reach, lefts_need, place_need}
@@ -15,6 +15,8 @@ steps_others p (at_index at e n steps) others = omega (arith, steps_others p ste
 pub place_others : (p : Program) (q : Pl) (others : ℕ) → place_reach p q others ≡ max (place_reach p q 0) others
 place_others p (local site steps) others = steps_others p steps others
 place_others p (global g steps) others = steps_others p steps others
+place_others p (indirect at e n steps) others = omega (arith, steps_others p steps others)
+place_others p (slice_element at e i n steps) others = omega (arith, steps_others p steps others)
 
 pub lefts_others : (p : Program) (ls : List Left) (others : ℕ) → lefts_reach p ls others ≡ max (lefts_reach p ls 0) others
 lefts_others p [] others = omega arith

@@ -2,12 +2,12 @@
 
 ghost use Rattle.std.specs.Prelude.{◌≡◌, ◌+◌, [], ◌∷◌, max, map, IfOk};
 ghost use Rattle.typed_syntax.specs.Syntax.{arguments_of as arguments, results_of as results};
-ghost use Rattle.typed.specs.View.{ex_of, exs_of, exs_of_values, place_of, steps_of, elements_of, left_of, piece_of, test_of, st_of, sts_of, program_of};
-ghost use Rattle.frames.specs.Frames.{reach, reach_all, place_reach as reach_place, steps_reach as reach_steps, elements_reach as reach_elements, lefts_reach as reach_lefts, piece_reach as reach_in, reach_pieces, test_reach, st_reach, sts_reach};
+ghost use Rattle.typed.specs.View.{ex_of, exs_of, exs_of_values, place_of, bound_of, steps_of, elements_of, left_of, piece_of, test_of, st_of, sts_of, program_of};
+ghost use Rattle.frames.specs.Frames.{reach, reach_all, bound_reach as reach_bound, place_reach as reach_place, steps_reach as reach_steps, elements_reach as reach_elements, lefts_reach as reach_lefts, piece_reach as reach_in, reach_pieces, test_reach, st_reach, sts_reach};
 
 use crate::words::{arguments_of, results_of};
 use base::{FuncId, NoMemory};
-use typed::{Element, Expr, Left, Piece, Place, Program, Step, Stmt, Values};
+use typed::{Bound, Element, Expr, Left, Piece, Place, Program, Step, Stmt, Values};
 
 /// The words of the arguments and results of a call.
 fn call_reach(program: &Program, f: FuncId) -> Result<u64, NoMemory>
@@ -24,13 +24,21 @@ pub fn expr_reach(program: &Program, e: &Expr) -> Result<u64, NoMemory>
     ensures { IfOk result (λ n. n ≡ reach (program_of program.now) (ex_of e.now)) }
 {
     match e {
-        Expr::Constant(_) => Ok(0),
-        Expr::Read(place) => place_reach(program, place),
-        Expr::Unary(_, a) | Expr::Part(_, _, a) => {
+        Expr::Constant(_) | Expr::Nil(_) | Expr::New(_) => Ok(0),
+        Expr::Read(place) | Expr::AddressOf(place) => place_reach(program, place),
+        Expr::Unary(_, a)
+        | Expr::Part(_, _, a)
+        | Expr::NewLiteral(_, a)
+        | Expr::Len(a)
+        | Expr::Cap(a) => {
             let a: &Expr = a;
             expr_reach(program, a)
         }
-        Expr::Binary(_, _, a, b) | Expr::LogicalAnd(a, b) | Expr::LogicalOr(a, b) => {
+        Expr::Binary(_, _, a, b)
+        | Expr::LogicalAnd(a, b)
+        | Expr::LogicalOr(a, b)
+        | Expr::AppendSlice(_, a, b)
+        | Expr::Copy(_, a, b) => {
             let a: &Expr = a;
             let b: &Expr = b;
             let first = expr_reach(program, a)?;
@@ -44,10 +52,47 @@ pub fn expr_reach(program: &Program, e: &Expr) -> Result<u64, NoMemory>
             Ok(words.max(own))
         }
         Expr::Literal(_, elements) => elements_reach(program, elements),
+        Expr::SliceLiteral(_, es) => row_reach(program, es),
+        Expr::Append(_, a, es) => {
+            let a: &Expr = a;
+            let first = expr_reach(program, a)?;
+            Ok(first.max(row_reach(program, es)?))
+        }
+        Expr::Make(_, _, count, room) => {
+            let count: &Expr = count;
+            let first = expr_reach(program, count)?;
+            Ok(first.max(bound_reach(program, room)?))
+        }
+        Expr::Slicing(_, _, a, low, high) => {
+            let a: &Expr = a;
+            let first = expr_reach(program, a)?;
+            let low = bound_reach(program, low)?;
+            Ok(first.max(low.max(bound_reach(program, high)?)))
+        }
+        Expr::ArraySlicing(_, place, _, low, high) => {
+            let first = place_reach(program, place)?;
+            let low = bound_reach(program, low)?;
+            Ok(first.max(low.max(bound_reach(program, high)?)))
+        }
     }
 }
 
-/// The most words that a call inside of a place's indices wants.
+/// The most words that a call inside of a bound wants.
+#[cycle(values)]
+#[tactic(auto, using(typed::proofs::Rows::expr_rows))]
+fn bound_reach(program: &Program, bound: &Bound) -> Result<u64, NoMemory>
+    ensures { IfOk result (λ n. n ≡ reach_bound (program_of program.now) (bound_of bound.now)) }
+{
+    match bound {
+        Bound::Absent => Ok(0),
+        Bound::At(e) => {
+            let e: &Expr = e;
+            expr_reach(program, e)
+        }
+    }
+}
+
+/// The most words that a call inside of a place's operands wants.
 #[cycle(values)]
 #[tactic(auto, using(typed::proofs::Rows::expr_rows))]
 fn place_reach(program: &Program, place: &Place) -> Result<u64, NoMemory>
@@ -56,6 +101,19 @@ fn place_reach(program: &Program, place: &Place) -> Result<u64, NoMemory>
     match place {
         Place::Local(_, steps) => steps_reach(program, steps),
         Place::Global(_, steps) => steps_reach(program, steps),
+        Place::Indirect(_, e, _, steps) => {
+            let e: &Expr = e;
+            let root = expr_reach(program, e)?;
+            Ok(root.max(steps_reach(program, steps)?))
+        }
+        Place::SliceElement(_, e, index, _, steps) => {
+            let e: &Expr = e;
+            let index: &Expr = index;
+            let rest = steps_reach(program, steps)?;
+            let first = expr_reach(program, index)?;
+            let root = expr_reach(program, e)?;
+            Ok(root.max(first.max(rest)))
+        }
     }
 }
 
@@ -247,11 +305,13 @@ pub fn stmt_reach(program: &Program, s: &Stmt) -> Result<u64, NoMemory>
             let inside = body_reach(program, body)?;
             range_reach(program, e, key, &Left::Blank, inside)
         }
-        Stmt::Indices(_, key, body) => {
+        Stmt::Indices(_, key, body) | Stmt::PointedIndices(_, key, body) => {
             let inside = body_reach(program, body)?;
             round_reach(program, key, &Left::Blank, inside)
         }
-        Stmt::Elements(_, e, _, key, value, body) => {
+        Stmt::Elements(_, e, _, key, value, body)
+        | Stmt::SliceElements(e, _, key, value, body)
+        | Stmt::PointedElements(_, e, _, _, key, value, body) => {
             let inside = body_reach(program, body)?;
             range_reach(program, e, key, value, inside)
         }

@@ -3,31 +3,68 @@
 ghost use Rattle.std.specs.Prelude.{◌≡◌, ◌≤◌, ◌+◌, [], ◌∷◌, drop, max, map, if◌then◌else◌, IfOk};
 ghost use Rattle.typed_syntax.specs.Types.{width, part_offset};
 ghost use Rattle.typed_syntax.specs.Syntax.{all_wide, ascend, type_in, type_named};
-ghost use Rattle.typed.specs.View.{ex_of, exs_of, exs_of_values, place_of, steps_of, elements_of, piece_of, test_of, site_numbers, left_of, st_of, sts_of, func_of, program_of, site_in};
+ghost use Rattle.typed.specs.View.{ex_of, exs_of, exs_of_values, place_of, bound_of, steps_of, elements_of, piece_of, test_of, site_numbers, left_of, st_of, sts_of, func_of, program_of, site_in};
 ghost use Rattle.typed.specs.Trees.{trees};
 ghost use Rattle.placement.specs.Told.{placement_of};
-ghost use Rattle.frames.specs.Frames.{far, steps_far, left_far, lefts_far, behind_values, need, need_all, place_need, steps_need, elements_need, lefts_need, piece_need, need_pieces, test_need, key_need, pair_need, element_words as words_of_elements, st_need, sts_need, entry_need, temps_of, widest as widest_of};
+ghost use Rattle.frames.specs.Frames.{far, steps_far, left_far, lefts_far, behind_values, need, need_all, bound_need, place_need, steps_need, elements_need, lefts_need, piece_need, need_pieces, test_need, key_need, pair_need, elements_round, element_words as words_of_elements, st_need, sts_need, entry_need, temps_of, widest as widest_of};
 
 use crate::words::{
     element_words, expr_words, place_words, results_of, type_words, values_words, widest,
 };
 use base::{NoMemory, SiteId, TypeId};
 use placement::Placement;
-use typed::{Element, Expr, Func, Left, Piece, Place, Program, Step, Stmt, Values};
+use typed::{Bound, Element, Expr, Func, Left, Piece, Place, Program, Step, Stmt, Values};
 
-/// What a `range` over a number keeps, the number and the index; what one over an array keeps, the index; and the most that each
-/// counts with above them.
+/// What a `range` over a number or a pointer keeps, it and the index; what one over an array keeps, the index; what one over a slice
+/// keeps, the header and the index; and the most that each counts with above them.
 const KEPT: u64 = 2;
 
 const KEPT_OF_ARRAY: u64 = 1;
 
+const KEPT_OF_SLICE: u64 = 4;
+
 const COUNTING: u64 = 2;
+
+/// The words of a slice's header: the address of its first element, its length and its capacity.
+const HEADER: u64 = 3;
 
 /// One temp more.
 fn above(temps: u64) -> Result<u64, NoMemory>
     ensures { IfOk result (λ n. n ≡ 1 + temps) }
 {
     temps.checked_add(1).ok_or(NoMemory)
+}
+
+/// So many temps above some words.
+fn above_words(words: u64, temps: u64) -> Result<u64, NoMemory>
+    ensures { IfOk result (λ n. n ≡ words + temps) }
+{
+    words.checked_add(temps).ok_or(NoMemory)
+}
+
+/// The temps of two values side by side, by those of each and the words of the first.
+fn side_by_side(first: u64, words: u64, second: u64) -> Result<u64, NoMemory>
+    ensures { IfOk result (λ n. n ≡ max first (words + second)) }
+{
+    Ok(first.max(above_words(words, second)?))
+}
+
+/// The temps of a `make`, by those of its length, which stands above the address, and of its capacity.
+fn sizes_temps(count: u64, room: u64) -> Result<u64, NoMemory>
+    ensures { IfOk result (λ n. n ≡ max (1 + count) (max (2 + room) 3)) }
+{
+    let first = above_words(1, count)?;
+    let second = above_words(2, room)?;
+    Ok(first.max(second.max(HEADER)))
+}
+
+/// The temps of a slicing, by those of what is sliced and of the bounds, which stand above the header.
+fn sliced_temps(whole: u64, low: u64, high: u64) -> Result<u64, NoMemory>
+    ensures { IfOk result (λ n. n ≡ max whole (max (3 + low) (max (4 + high) 5))) }
+{
+    let first = above_words(HEADER, low)?;
+    let second = above_words(HEADER + 1, high)?;
+    Ok(whole.max(first.max(second.max(HEADER + 2))))
 }
 
 /// The temp of the address that steps lead to: it's there where an index is worked out.
@@ -52,7 +89,8 @@ fn address_temps(place: &Place) -> u64
 {
     match place {
         Place::Local(_, steps) => steps_address(steps),
-        Place::Global(_, _) => 1,
+        Place::Indirect(_, _, _, steps) => steps_address(steps),
+        Place::Global(_, _) | Place::SliceElement(_, _, _, _, _) => 1,
     }
 }
 
@@ -96,18 +134,15 @@ pub fn expr_temps(program: &Program, e: &Expr) -> Result<u64, NoMemory>
             let temps = place_temps(program, place, address_temps(place))?;
             Ok(temps.max(place_words(program, place)))
         }
-        Expr::Unary(_, a) | Expr::Part(_, _, a) => {
+        Expr::Unary(_, a) | Expr::Part(_, _, a) | Expr::Len(a) | Expr::Cap(a) => {
             let a: &Expr = a;
             expr_temps(program, a)
         }
         Expr::Binary(_, _, a, b) => {
             let a: &Expr = a;
             let b: &Expr = b;
-            let first = expr_temps(program, a)?;
-            let second = expr_temps(program, b)?;
             let words = expr_words(program, a)?;
-            let beside = words.checked_add(second).ok_or(NoMemory)?;
-            Ok(first.max(beside))
+            side_by_side(expr_temps(program, a)?, words, expr_temps(program, b)?)
         }
         Expr::LogicalAnd(a, b) | Expr::LogicalOr(a, b) => {
             let a: &Expr = a;
@@ -125,6 +160,71 @@ pub fn expr_temps(program: &Program, e: &Expr) -> Result<u64, NoMemory>
             let temps = elements_temps(program, *type_id, elements)?;
             Ok(temps.max(type_words(program, *type_id)))
         }
+        Expr::Nil(type_id) => Ok(type_words(program, *type_id)),
+        Expr::AddressOf(place) => target_temps(program, place),
+        Expr::New(_) => Ok(1),
+        Expr::NewLiteral(_, a) => {
+            let a: &Expr = a;
+            let words = above(expr_words(program, a)?)?;
+            Ok(expr_temps(program, a)?.max(words))
+        }
+        Expr::SliceLiteral(_, es) => above_words(HEADER, row_temps(program, es)?),
+        Expr::Make(_, _, count, room) => {
+            let count: &Expr = count;
+            let first = expr_temps(program, count)?;
+            sizes_temps(first, bound_temps(program, room)?)
+        }
+        Expr::Append(_, a, es) => {
+            let a: &Expr = a;
+            let elements = above_words(HEADER, row_temps(program, es)?)?;
+            Ok(expr_temps(program, a)?.max(elements))
+        }
+        Expr::AppendSlice(_, a, b) | Expr::Copy(_, a, b) => {
+            let a: &Expr = a;
+            let b: &Expr = b;
+            side_by_side(expr_temps(program, a)?, HEADER, expr_temps(program, b)?)
+        }
+        Expr::Slicing(_, _, a, low, high) => {
+            let a: &Expr = a;
+            let whole = expr_temps(program, a)?;
+            sliced_temps(
+                whole,
+                bound_temps(program, low)?,
+                bound_temps(program, high)?,
+            )
+        }
+        Expr::ArraySlicing(_, place, _, low, high) => {
+            let whole = target_temps(program, place)?;
+            sliced_temps(
+                whole,
+                bound_temps(program, low)?,
+                bound_temps(program, high)?,
+            )
+        }
+    }
+}
+
+/// The temps of the address of a place.
+#[cycle(values)]
+fn target_temps(program: &Program, place: &Place) -> Result<u64, NoMemory>
+    ensures { IfOk result (λ n. n ≡ max (place_need (program_of program.now) (place_of place.now) (far (place_of place.now))) 1) }
+{
+    let temps = place_temps(program, place, address_temps(place))?;
+    Ok(temps.max(1))
+}
+
+/// The temps of a bound; where there is none, a number stands in its place.
+#[cycle(values)]
+#[tactic(auto, using(typed::proofs::Rows::expr_rows))]
+fn bound_temps(program: &Program, bound: &Bound) -> Result<u64, NoMemory>
+    ensures { IfOk result (λ n. n ≡ bound_need (program_of program.now) (bound_of bound.now)) }
+{
+    match bound {
+        Bound::Absent => Ok(1),
+        Bound::At(e) => {
+            let e: &Expr = e;
+            expr_temps(program, e)
+        }
     }
 }
 
@@ -137,6 +237,18 @@ fn place_temps(program: &Program, place: &Place, behind: u64) -> Result<u64, NoM
     match place {
         Place::Local(_, steps) => steps_temps(program, steps, behind),
         Place::Global(_, steps) => steps_temps(program, steps, behind),
+        Place::Indirect(_, e, _, steps) => {
+            let e: &Expr = e;
+            let rest = above(steps_temps(program, steps, behind)?)?;
+            Ok(expr_temps(program, e)?.max(rest))
+        }
+        Place::SliceElement(_, e, index, _, steps) => {
+            let e: &Expr = e;
+            let index: &Expr = index;
+            let rest = above(steps_temps(program, steps, behind)?)?;
+            let beside = above_words(HEADER, expr_temps(program, index)?.max(rest))?;
+            Ok(expr_temps(program, e)?.max(beside))
+        }
     }
 }
 
@@ -419,6 +531,62 @@ fn copy_temps(
     range_temps(operand, KEPT_OF_ARRAY, round, body)
 }
 
+/// The temps of the left sides of a `range` over elements of so many words.
+fn round_temps(program: &Program, words: u64, key: &Left, value: &Left) -> Result<u64, NoMemory>
+    ensures { IfOk result (λ n. n ≡ elements_round (program_of program.now) words (left_of key.now) (left_of value.now)) }
+{
+    match value {
+        Left::Blank => key_temps(program, key),
+        Left::New(_) | Left::To(_) => pair_temps(program, key, value, above(words)?),
+    }
+}
+
+/// The temps of a `range` over a slice whose elements are of a type and whose body wants `body`.
+fn slice_temps(
+    program: &Program,
+    e: &Expr,
+    type_id: TypeId,
+    key: &Left,
+    value: &Left,
+    body: u64,
+) -> Result<u64, NoMemory>
+    ensures { IfOk result (λ n. n ≡ max (need (program_of program.now) (ex_of e.now)) (max (4 + 2) (max
+        (4 + elements_round (program_of program.now) (width (type_named (program_of program.now) type_id.0)) (left_of key.now) (left_of value.now))
+        (4 + body)))) }
+{
+    let operand = expr_temps(program, e)?;
+    let round = round_temps(program, type_words(program, type_id), key, value)?;
+    range_temps(operand, KEPT_OF_SLICE, round, body)
+}
+
+/// The temps of a `range` over the array that a pointer leads to, whose elements are of a type and whose body wants `body`.
+fn pointer_temps(
+    program: &Program,
+    e: &Expr,
+    type_id: TypeId,
+    key: &Left,
+    value: &Left,
+    body: u64,
+) -> Result<u64, NoMemory>
+    ensures { IfOk result (λ n. n ≡ max (need (program_of program.now) (ex_of e.now)) (max (2 + 2) (max
+        (2 + pair_need (program_of program.now) (left_of key.now ∷ left_of value.now ∷ [])
+        (1 + width (type_named (program_of program.now) type_id.0))) (2 + body)))) }
+{
+    let operand = expr_temps(program, e)?;
+    let words = above(type_words(program, type_id))?;
+    let round = pair_temps(program, key, value, words)?;
+    range_temps(operand, KEPT, round, body)
+}
+
+/// The temps of a `range` over the indices of the array that a pointer leads to, whose body wants `body`.
+fn pointed_temps(program: &Program, key: &Left, body: u64) -> Result<u64, NoMemory>
+    ensures { IfOk result (λ n. n ≡ max 0 (max (2 + 2)
+        (max (2 + key_need (program_of program.now) (left_of key.now)) (2 + body)))) }
+{
+    let round = key_temps(program, key)?;
+    range_temps(0, KEPT, round, body)
+}
+
 /// The temps of a return from a function whose results have these names: they are moved through temps, one after the other.
 fn return_temps(program: &Program, named: &[SiteId], values: &Values) -> Result<u64, NoMemory>
     ensures { IfOk result (λ n. n ≡ max (need_all (program_of program.now) (exs_of_values values.now))
@@ -464,6 +632,18 @@ pub fn stmt_temps(program: &Program, named: &[SiteId], s: &Stmt) -> Result<u64, 
         Stmt::Elements(site, e, _, key, value, body) => {
             let round = body_temps(program, named, body)?;
             copy_temps(program, *site, e, key, value, round)
+        }
+        Stmt::SliceElements(e, type_id, key, value, body) => {
+            let round = body_temps(program, named, body)?;
+            slice_temps(program, e, *type_id, key, value, round)
+        }
+        Stmt::PointedElements(_, e, _, type_id, key, value, body) => {
+            let round = body_temps(program, named, body)?;
+            pointer_temps(program, e, *type_id, key, value, round)
+        }
+        Stmt::PointedIndices(_, key, body) => {
+            let round = body_temps(program, named, body)?;
+            pointed_temps(program, key, round)
         }
         Stmt::Return(values) => return_temps(program, named, values),
         Stmt::Print(_, ps) => line_temps(program, ps),

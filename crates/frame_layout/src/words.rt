@@ -146,6 +146,9 @@ pub fn place_words(program: &Program, place: &Place) -> u64
         Place::Global(number, steps) => {
             words_behind(program, site_of_global(program, *number), steps)
         }
+        Place::Indirect(_, _, type_id, steps) | Place::SliceElement(_, _, _, type_id, steps) => {
+            type_words(program, type_behind(program, *type_id, steps))
+        }
     }
 }
 
@@ -160,13 +163,26 @@ pub fn expr_words(program: &Program, e: &Expr) -> Result<u64, NoMemory>
         Expr::Part(type_id, index, _) => {
             Ok(type_words(program, program.types.part(*type_id, *index)))
         }
-        Expr::Literal(type_id, _) => Ok(type_words(program, *type_id)),
-        // Operators and constants give whole numbers and truth values.
+        Expr::Literal(type_id, _) | Expr::Nil(type_id) => Ok(type_words(program, *type_id)),
+        // A slice's address, length and capacity.
+        Expr::SliceLiteral(_, _)
+        | Expr::Make(_, _, _, _)
+        | Expr::Append(_, _, _)
+        | Expr::AppendSlice(_, _, _)
+        | Expr::Slicing(_, _, _, _, _)
+        | Expr::ArraySlicing(_, _, _, _, _) => Ok(3),
+        // Whole numbers, truth values and pointers.
         Expr::Constant(_)
         | Expr::Unary(_, _)
         | Expr::Binary(_, _, _, _)
         | Expr::LogicalAnd(_, _)
-        | Expr::LogicalOr(_, _) => Ok(1),
+        | Expr::LogicalOr(_, _)
+        | Expr::AddressOf(_)
+        | Expr::New(_)
+        | Expr::NewLiteral(_, _)
+        | Expr::Copy(_, _, _)
+        | Expr::Len(_)
+        | Expr::Cap(_) => Ok(1),
     }
 }
 

@@ -5,10 +5,10 @@ use Rattle.std.specs.Prelude.{ℕ, zero, suc, ◌+◌, Bool, true, false, List, 
 use Rattle.frames.specs.Placement.{Placement}
 use Rattle.typed_syntax.specs.Types.{TypeTree, ints, width, part_type, part_offset}
 use Rattle.typed_syntax.specs.Value.{words}
-use Rattle.typed_syntax.specs.Syntax.{Ex, Exs, Pl, Steps, here, inner, at_index, Left, Piece, Over, St, Sts, Func, Program, constant, read, unary, binary, logical_and, logical_or, call, part_of, literal, Elements, no_elements, element, local, global, none, more, results, read_int, blank, new, to, text, shown, over_int, over_length, over_copy, declare, assign, update, bump, discard, block, if_stmt, for_stmt, range, break_stmt, continue_stmt, return_stmt, print, panic, exit, done, next, arguments_of, results_of, type_named, site_type, site_width, place_width, wide, all_wide, ascend}
+use Rattle.typed_syntax.specs.Syntax.{Ex, Exs, Pl, Steps, here, inner, at_index, Left, Piece, Over, St, Sts, Func, Program, constant, read, unary, binary, logical_and, logical_or, call, part_of, literal, Elements, no_elements, element, nil, address_of, new_variable, literal_variable, slice_literal, make, append, append_slice, copy, slicing, array_slicing, len, cap, Bound, absent, bound, local, global, indirect, slice_element, none, more, results, read_int, blank, new, to, text, shown, over_int, over_length, over_copy, over_slice, over_pointer, over_pointed, declare, assign, update, bump, discard, block, if_stmt, for_stmt, range, break_stmt, continue_stmt, return_stmt, print, panic, exit, done, next, arguments_of, results_of, type_named, site_type, site_width, place_width, wide, all_wide, ascend}
 
--- the words of the address of a place, where it is reached by one: of a package variable, and of a part by an index that is
--- worked out
+-- the words of the address of a place, where it is reached by one: of a package variable, of an element of a slice, and of a part by an
+-- index that is worked out
 abbrev pub steps_far : Steps → ℕ
 steps_far here = 0
 steps_far (inner i steps) = steps_far steps
@@ -17,6 +17,9 @@ steps_far (at_index at e n steps) = 1
 abbrev pub far : Pl → ℕ
 far (local site steps) = steps_far steps
 far (global g steps) = 1
+-- the pointer itself is the address of what it leads to
+far (indirect at e n steps) = steps_far steps
+far (slice_element at e i n steps) = 1
 
 abbrev pub left_far : Left → ℕ
 left_far blank = 0
@@ -62,11 +65,32 @@ module _ (p : Program) where
     need (call f es) = max (need_all es) (results_of p f)
     need (part_of n i e) = need e
     need (literal n es) = max (width (type_named p n)) (elements_need (type_named p n) (ascend es) es)
+    need (nil n) = width (type_named p n)
+    need (address_of q) = max (place_need q (far q)) 1
+    need (new_variable site) = 1
+    need (literal_variable site e) = max (need e) (wide p e + 1)
+    -- the header of a slice stands below the elements, and so does that of one that is made or to which they are added
+    need (slice_literal site es) = 3 + need_all es
+    need (make at site count room) = max (1 + need count) (max (2 + bound_need room) 3)
+    need (append site e es) = max (need e) (3 + need_all es)
+    need (append_slice site e s) = max (need e) (3 + need s)
+    need (copy n target source) = max (need target) (3 + need source)
+    need (slicing at n e low high) = max (need e) (max (3 + bound_need low) (max (4 + bound_need high) 5))
+    need (array_slicing at q n low high) = max (max (place_need q (far q)) 1) (max (3 + bound_need low) (max (4 + bound_need high) 5))
+    need (len e) = need e
+    need (cap e) = need e
+
+    -- a number stands in the place of a bound that is not there
+    pub bound_need : Bound → ℕ
+    bound_need absent = 1
+    bound_need (bound e) = need e
 
     -- the operands of a place, one after the other, and a number of words after them
     pub place_need : Pl → (behind : ℕ) → ℕ
     place_need (local site steps) behind = steps_need steps behind
     place_need (global g steps) behind = steps_need steps behind
+    place_need (indirect at e n steps) behind = max (need e) (1 + steps_need steps behind)
+    place_need (slice_element at e i n steps) behind = max (need e) (3 + max (need i) (1 + steps_need steps behind))
 
     pub steps_need : Steps → (behind : ℕ) → ℕ
     steps_need here behind = behind
@@ -111,11 +135,30 @@ module _ (p : Program) where
     reach (call f es) = max (reach_all es) (arguments_of p f + results_of p f)
     reach (part_of n i e) = reach e
     reach (literal n es) = elements_reach es
+    reach (nil n) = 0
+    reach (address_of q) = place_reach q 0
+    reach (new_variable site) = 0
+    reach (literal_variable site e) = reach e
+    reach (slice_literal site es) = reach_all es
+    reach (make at site count room) = max (reach count) (bound_reach room)
+    reach (append site e es) = max (reach e) (reach_all es)
+    reach (append_slice site e s) = max (reach e) (reach s)
+    reach (copy n target source) = max (reach target) (reach source)
+    reach (slicing at n e low high) = max (reach e) (max (bound_reach low) (bound_reach high))
+    reach (array_slicing at q n low high) = max (place_reach q 0) (max (bound_reach low) (bound_reach high))
+    reach (len e) = reach e
+    reach (cap e) = reach e
+
+    pub bound_reach : Bound → ℕ
+    bound_reach absent = 0
+    bound_reach (bound e) = reach e
 
     -- of the operands of a place, and of what comes with them
     pub place_reach : Pl → (others : ℕ) → ℕ
     place_reach (local site steps) others = steps_reach steps others
     place_reach (global g steps) others = steps_reach steps others
+    place_reach (indirect at e n steps) others = max (reach e) (steps_reach steps others)
+    place_reach (slice_element at e i n steps) others = max (reach e) (max (reach i) (steps_reach steps others))
 
     pub steps_reach : Steps → (others : ℕ) → ℕ
     steps_reach here others = others
@@ -149,6 +192,9 @@ module _ (p : Program) where
   over_reach (over_int e) = reach e
   over_reach (over_length x) = 0
   over_reach (over_copy site e x) = reach e
+  over_reach (over_slice e n) = reach e
+  over_reach (over_pointer at e x n) = reach e
+  over_reach (over_pointed x) = 0
 
   -- the operands of left sides, and a number of words after them
   abbrev pub lefts_need : List Left → (behind : ℕ) → ℕ
@@ -174,11 +220,18 @@ module _ (p : Program) where
   over_need (over_int e) = need e
   over_need (over_length x) = 0
   over_need (over_copy site e x) = need e
+  over_need (over_slice e n) = need e
+  over_need (over_pointer at e x n) = need e
+  over_need (over_pointed x) = 0
 
   abbrev pub hidden : Over → ℕ
   hidden (over_int e) = 2
   hidden (over_length x) = 1
   hidden (over_copy site e x) = 1
+  -- the header or the pointer, and the index; a pointer has its word also where it is not worked out
+  hidden (over_slice e n) = 4
+  hidden (over_pointer at e x n) = 2
+  hidden (over_pointed x) = 2
 
   -- the index that a left side gets, after its operands
   abbrev pub key_need : Left → ℕ
@@ -194,11 +247,19 @@ module _ (p : Program) where
   abbrev pub pair_need : List Left → (values : ℕ) → ℕ
   pair_need ls values = lefts_need ls (max values (behind_values values (lefts_far ls)))
 
+  -- what a round over elements of so many words gives to left sides: without a second one it is the index alone
+  abbrev pub elements_round : (words : ℕ) → (key value : Left) → ℕ
+  elements_round words key blank = key_need key
+  elements_round words key value = pair_need (key ∷ value ∷ []) (1 + words)
+
   -- what a round gives to left sides: the index, and the element
   abbrev pub round_need : Over → (key value : Left) → ℕ
   round_need (over_int e) key value = key_need key
   round_need (over_length x) key value = key_need key
   round_need (over_copy site e x) key value = pair_need (key ∷ value ∷ []) (1 + element_words site)
+  round_need (over_slice e n) key value = elements_round (width (type_named p n)) key value
+  round_need (over_pointer at e x n) key value = pair_need (key ∷ value ∷ []) (1 + width (type_named p n))
+  round_need (over_pointed x) key value = key_need key
 
   abbrev mutual
     pub st_need : (named : List ℕ) → St → ℕ

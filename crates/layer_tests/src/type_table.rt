@@ -94,6 +94,39 @@ fn check_refusals(rt: &impl Abort, alloc: Global, table: &mut TypeTable) -> Resu
     Ok(())
 }
 
+/// Types that lead to a struct have words before it's told, and one of its fields may be of such a type.
+fn check_leads(rt: &impl Abort, alloc: Global, table: &mut TypeTable) -> Result<(), Fail>
+    requires { length table.old.structs ≡ 2 }
+{
+    let point = table.enter(ValueType::Struct(POINT))?;
+    let next = table.enter(ValueType::Pointer(point))?;
+    let others = table.enter(ValueType::Slice(next))?;
+    let rows = table.enter(ValueType::Array(2, others))?;
+    assert_eq!(rt; table.words_at(point), None);
+    assert_eq!(rt; table.words_at(next), Some(1));
+    assert_eq!(rt; table.words_at(others), Some(3));
+    assert_eq!(rt; table.words_at(rows), Some(6));
+    tell(table, POINT, vec![in alloc; INT, next, others]?)?;
+    assert_eq!(rt; table.width(point), 5);
+    assert_eq!(rt; table.width(next), 1);
+    assert_eq!(rt; table.width(rows), 6);
+    assert_eq!(rt; table.part(point, 1), next);
+    assert_eq!(rt; table.part(next, 0), INT);
+    assert_eq!(rt; table.part_offset(point, 2), 2);
+    assert_eq!(rt; table.part_offset(others, 1), 0);
+    assert_eq!(rt; table.type_at(next), ValueType::Pointer(point));
+    assert_eq!(rt; table.find(ValueType::Slice(next)), Some(others));
+    assert_eq!(rt; table.find(ValueType::Pointer(others)), None);
+    Ok(())
+}
+
+/// `type point struct { x int; next *point; others []*point }`.
+#[test]
+fn a_struct_leads_to_itself(rt: HostRuntime) -> Result<(), Fail> {
+    let mut table = TypeTable::new(rt.alloc(), 2)?;
+    check_leads(&rt, rt.alloc(), &mut table)
+}
+
 /// Types of 0 words, and of more than 65,535.
 #[test]
 fn what_is_refused(rt: HostRuntime) -> Result<(), Fail> {
