@@ -8,6 +8,7 @@ use Rattle.heap_bump.specs.Words.{Words, AreTaken, first_address, with_word}
 use Rattle.isa.specs.Code.{Tables, IsCode}
 use Rattle.isa.specs.declared.func.Func.{Func as Entry}
 use Rattle.machine.specs.Inside.{Inside}
+use Rattle.machine.proofs.Placed.{starts}
 use Rattle.machine.specs.Machine.{Event, Last as Halt}
 use Rattle.machine.specs.declared.run_state.Ending.TheVariants as Machine
 use Rattle.simulation.specs.Outcome.{Outcome, Ends}
@@ -27,7 +28,7 @@ use Rattle.code_runs.specs.declared.running.RunFault.TheVariants as fault
 
 -- the frame of a function lies inside its words where it is entered
 pub begins : (t : Tables) → IsCode t → (f : ℕ) (fn : Entry) → slice_get t.funcs f ≡ Some fn → Inside t fn.frame fn.start 0
-begins t is f fn e = record { f = f; fn = fn; owner = (is.linked f fn e).start; is = e; room = omega arith }
+begins t is f fn e = record { f = f; fn = fn; owner = starts t f fn is e; is = e; room = omega arith }
 
 -- how many words values begin with
 pub zero_long : (t : TypeTree) → width t ≡ length (words_of (zero_of t))

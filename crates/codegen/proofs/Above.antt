@@ -10,6 +10,7 @@ use Rattle.expression_code.proofs.Steps.{above_least}
 place_least : (q : Pl) (h : ℕ) → h ≤ place_above q h
 place_least (local site steps) h = above_least h steps
 place_least (global g steps) h = above_least h steps
+place_least q h = omega arith
 
 -- operands only go up
 pub lefts_least : (ls : List Left) (h : ℕ) → h ≤ lefts_above ls h

@@ -16,7 +16,7 @@ use Rattle.typed_syntax.specs.Syntax.{Ex, Exs, Pl, Left, Piece, Sts, Program, bl
 use Rattle.typed.specs.View.{left_of, piece_of, site_in, st_of, sts_of}
 use Rattle.codegen.specs.Frame.{assign_code, bump_code, key_code, left_code, param_code, temp_behind, turn_code, update_code}
 use Rattle.codegen.specs.Temps.{LeftFits, LeftsFitIn, ParamFits, ParamsFitIn, PiecesFitIn, ReadyFitIn, StsFitIn}
-use Rattle.program_code.specs.Code.{Slots, above_address, address_code, address_size, array_code, element_round_code, element_round_size, ex_code, exs_code, fetch_code, first_width, index_round_code, index_round_size, land_code, lefts_above, lefts_code, lefts_end, lefts_size, lefts_sized, moves, operation, other_widths, params_code, piece_size, pieces_code, place_above, place_code, place_end, place_size, ready_code, renew_code, renew_size, site_slot, site_words, size, st_code, st_size, sts_code, sts_size, temp, test_code, test_size}
+use Rattle.program_code.specs.Code.{Slots, birth_code, above_address, address_code, address_size, array_code, element_round_code, element_round_size, ex_code, exs_code, fetch_code, first_width, index_round_code, index_round_size, land_code, lefts_above, lefts_code, lefts_end, lefts_size, lefts_sized, operation, other_widths, params_code, piece_size, pieces_code, place_above, place_code, place_end, place_size, ready_code, renew_code, renew_size, site_slot, site_words, size, st_code, st_size, sts_code, sts_size, temp, test_code, test_size}
 use Rattle.program_code.proofs.Sizes.{length_address, length_code, length_element_round, length_index_round, length_last, length_lefts, length_pieces, length_place, length_ready, length_renew, length_st, length_sts, length_test, lefts_ends, lefts_sum, place_ends}
 use Rattle.expression_code.proofs.ByWidth.{first_drop, other_drop}
 
@@ -356,16 +356,17 @@ module _ (p : Program) (arguments : ℕ) (named : List ℕ) (s : Slots) where
       let same : key_code p s key (h + 1) h (length c1) ≡ round = ap (key_code p s key (h + 1) h) n1 ∙ key_is key (h + 1) h (pc + 4) in
       rounds_emitted old c1 c2 c3 c4 round body x (index_round_size p key) begin test turn behind h eb et eu ebe e1 (length_index_round p s key h (pc + 4)) (e2 ∙ ap (λ is. c1 ++ is) same) e3 e4
 
-  pub elements_emitted : (old c0 c1 c2 c3 c4 : List Instr) (site : ℕ) (e : Ex) (key value : Left) (body : Sts) (x start begin test turn behind h out again : ℕ) → start ≡ length old → begin ≡ start + size p e + 1 → test ≡ begin + 1
+  pub elements_emitted : (old c0 c1 c2 c3 c4 : List Instr) (site : ℕ) (e : Ex) (key value : Left) (body : Sts) (x start begin test turn behind h out again : ℕ) → start ≡ length old → begin ≡ start + size p e + 2 → test ≡ begin + 1
       → turn ≡ begin + 4 + element_round_size p key value + long body → behind ≡ turn + 3
-      → c0 ≡ old ++ (ex_code p s e h (length old) ++ moves (site_words s site) (site_slot s site) (temp s h) ∷ [])
+      → c0 ≡ old ++ (ex_code p s e h (length old) ++ birth_code s site h)
       → c1 ≡ c0 ++ Const (temp s h) 0 ∷ Const (temp s (h + 1)) x ∷ Bin Word.Less (temp s (h + 1)) (temp s h) (temp s (h + 1)) ∷ JumpZero (temp s (h + 1)) behind ∷ []
       → c2 ≡ c1 ++ element_round_code p s site x key value h (length c1) → c3 ≡ c2 ++ code_at body (h + 1) behind turn (length c2)
       → c4 ≡ c3 ++ turn_code s h test
       → c4 ≡ old ++ st_code p arguments named s (range (over_copy site e x) key value body) h out again (length old)
   elements_emitted old c0 c1 c2 c3 c4 site e key value body x start begin test turn behind h out again es eb et eu ebe e0 e1 e2 e3 e4 =
-      let pc = length old in let copy = ex_code p s e h pc in let move = moves (site_words s site) (site_slot s site) (temp s h) in let pb = pc + size p e + 1 in
-      let n0 : length c0 ≡ pb = ap length e0 ∙ omega (arith, length-append old (copy ++ move ∷ []), length_last copy move, length_code p s e h pc) in
+      let pc = length old in let copy = ex_code p s e h pc in let birth = birth_code s site h in let pb = pc + size p e + 2 in
+      let two : length birth ≡ 2 = refl in
+      let n0 : length c0 ≡ pb = ap length e0 ∙ omega (arith, two, length-append old (copy ++ birth), length-append copy birth, length_code p s e h pc) in
       let head : List Instr = Const (temp s h) 0 ∷ Const (temp s (h + 1)) x ∷ Bin Word.Less (temp s (h + 1)) (temp s h) (temp s (h + 1)) ∷ JumpZero (temp s (h + 1)) behind ∷ [] in
       let four : length head ≡ 4 = refl in
       let n1 : length c1 ≡ length c0 + 4 = ap length e1 ∙ omega (arith, length-append c0 head, four) in
@@ -375,4 +376,4 @@ module _ (p : Program) (arguments : ℕ) (named : List ℕ) (s : Slots) where
       let all : c4 ≡ c0 ++ rounds (length c0) =
       rounds_emitted c0 c1 c2 c3 c4 round body x wide begin test turn behind h (omega (arith, eb, es, n0)) et eu ebe e1 (length_element_round p s site x key value h (length c0 + 4)) (e2 ∙ ap (λ place. c1 ++ element_round_code p s site x key value h place) n1) e3 e4 in
       let placed : c4 ≡ c0 ++ rounds pb = all ∙ ap (λ k. c0 ++ rounds k) n0 in
-      placed ∙ ap (λ c. c ++ rounds pb) e0 ∙ append_assoc old (copy ++ move ∷ []) (rounds pb) ∙ ap (λ is. old ++ is) (append_assoc copy (move ∷ []) (rounds pb))
+      placed ∙ ap (λ c. c ++ rounds pb) e0 ∙ append_assoc old (copy ++ birth) (rounds pb) ∙ ap (λ is. old ++ is) (append_assoc copy birth (rounds pb))

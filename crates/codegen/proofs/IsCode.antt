@@ -1,17 +1,20 @@
 -- The code of a program is a code.
-use Rattle.std.proofs.Common.{◌≡◌, ◌⊎◌, inl, inr, ℕ, zero, suc, ◌+◌, ◌-◌, ◌<◌, ◌≤◌, Bool, true, false, List, [], ◌∷◌, ◌++◌, length, map, Some, refl, sym, ap, ◌∙◌, subst, arith, length-append, append_assoc}
+use Rattle.std.proofs.Common.{◌≡◌, ◌⊎◌, inl, inr, ℕ, zero, suc, ◌+◌, ◌-◌, ◌<◌, ◌≤◌, Bool, true, false, List, [], ◌∷◌, ◌++◌, length, map, replicate, Some, refl, sym, ap, ◌∙◌, subst, arith, length-append, append_assoc}
 use Rattle.std.specs.Prelude.{Option, None, slice_get, ⊤}
 use Rattle.std.proofs.lemmas.Option.{slice_get_within}
-use Rattle.isa.specs.Code.{AddedFits, CanCall, Fits as FitsAt, FitsPlace, IsCode, IsLinked}
+use Rattle.isa.specs.Code.{AddedFits, AreLaid, CanCall, Fits as FitsAt, FitsPlace, IsCode, IsLinked, owners_of}
 use Rattle.isa.specs.declared.func.Func.{Func as Entry}
 use Rattle.isa.specs.declared.instr.Instr.{Instr}
 use Rattle.isa.specs.declared.instr.BinOp.TheVariants as Word
-use Rattle.isa.specs.declared.instr.Instr.TheVariants.{Const, Zero, Move, MoveWords, Same, Differ, Bin, Un, Jump, JumpZero, Call, Argument, ArgumentWords, SetResults, Load, Store, Address, Offset, Index, SliceIndex, Slice, Born, Alloc, Make, Append, Copy, ReadInt, PrintInt, PrintBool, PrintText, PrintSpace, PrintLine, Return, Exit, PanicText, PanicInt, PanicBool}
+use Rattle.isa.specs.declared.instr.Direction.TheVariants.{FromSlots}
+use Rattle.isa.specs.declared.instr.MoveEvent.{MoveEvent}
+use Rattle.isa.specs.declared.instr.MoveEvent.TheVariants.{Silent, Read, Write}
+use Rattle.isa.specs.declared.instr.Instr.TheVariants.{Const, Zero, Move, Same, Bin, Un, Jump, JumpZero, Call, Incoming, Load, Store, Address, Offset, Index, SliceIndex, Slice, Born, Alloc, Make, Append, Copy, ReadInt, PrintInt, PrintBool, PrintText, PrintSpace, PrintLine, Return, Exit, PanicText, PanicInt, PanicBool}
 use Rattle.typed_syntax.specs.declared.operators.BinOp.{BinOp}
 use Rattle.typed_syntax.specs.declared.operators.BinOp.TheVariants.{Add, Sub, Mul, Div, Rem, And, Or, Xor, AndNot, ShiftLeft, ShiftRight, Equal, NotEqual, Less, LessEqual, Greater, GreaterEqual}
 use Rattle.typed_syntax.specs.declared.operators.UnOp.{UnOp}
 use Rattle.typed_syntax.specs.declared.operators.UnOp.TheVariants as One
-use Rattle.typed_syntax.specs.Types.{TypeTree, ints, bools, struct_of, array_of, width, part_type, part_offset}
+use Rattle.typed_syntax.specs.Types.{TypeTree, ints, bools, struct_of, array_of, pointer_to, slice_of, width, part_type, part_offset}
 use Rattle.typed_syntax.specs.Paths.{offset}
 use Rattle.typed_syntax.specs.Syntax.{Ex, Exs, Steps, here, inner, at_index, Pl, Left, Piece, St, Sts, Func, Program, constant, read, unary, binary, logical_and, logical_or, call, part_of, literal, Elements, no_elements, element, local, global, none, more, results, read_int, blank, new, to, text, shown, over_int, over_length, over_copy, declare, assign, update, bump, discard, block, if_stmt, for_stmt, range, break_stmt, continue_stmt, return_stmt, print, panic, exit, done, next, all_width, each_width, arguments_in, results_in, argument_words, result_words, arguments_of, results_of, type_named, site_width, path_of, wide, all_wide, value_widths, ascend, words_through, gap_behind}
 use Rattle.typed_syntax.specs.Form.{scope_in, body_first, IsInForm}
@@ -19,7 +22,7 @@ use Rattle.frames.specs.Placement.{Placement, IsPlaced}
 use Rattle.frames.specs.Frames.{far, steps_far, cells_between, words_between, frame_of}
 use Rattle.expression_code.specs.Temps.{SiteFits, IndicesFit, PlaceFits, AddressFits, reached, CallFits, Fits, OperandsFit, StepsFitIn, ElementsFitIn, ExsFitIn}
 use Rattle.codegen.specs.Temps.{SitesFit, sites_words, ParamsFitIn, LeftFits, LeftsFitIn, ValuesFit, RenewFits, ReadyFitIn, PiecesFitIn, TestFitsIn, StFitsIn, StsFitIn, FuncFitsIn}
-use Rattle.program_code.specs.Code.{Slots, temp, site_slot, site_type, global_type, part_slot, part_words, moves, zeros, first_width, other_widths, operation, binary_code, unary_code, gap_code, gap_size, above_address, steps_above, place_above, lefts_above, index_code, steps_address, address_code, address_size, fetch_part, fetch_code, land_part, land_code, read_code, write_code, move_code, result_code, call_code, ex_code, exs_code, place_code, steps_code, elements_code, ready_code, place_size, steps_size, place_end, elements_size, lefts_sized, lefts_end, pieces_code, test_code, shown_code, raised_code, show_more, show_plain, show_code, lefts_code, lefts_size, element_code, array_code, named_write_code, named_read_code, leave_code, values_code, params_code, zeros_code, renew_code, renew_size, size, exs_size, pieces_size, test_size, st_size, sts_size, st_code, sts_code, slots_of, entry_code, entry_size, func_code, func_size, entry_of, funcs_code, funcs_owners, funcs_entries, code_of}
+use Rattle.program_code.specs.Code.{Slots, birth_code, temp, site_slot, site_type, global_type, part_slot, part_words, zeros, first_width, other_widths, operation, binary_code, unary_code, gap_code, gap_size, above_address, steps_above, place_above, lefts_above, index_code, steps_address, address_code, address_size, fetch_part, fetch_code, land_part, land_code, read_code, write_code, move_code, result_code, call_code, ex_code, exs_code, place_code, steps_code, elements_code, ready_code, place_size, steps_size, place_end, elements_size, lefts_sized, lefts_end, pieces_code, test_code, shown_code, raised_code, show_more, show_plain, show_code, lefts_code, lefts_size, element_code, array_code, named_write_code, named_read_code, leave_code, values_code, params_code, zeros_code, renew_code, renew_size, size, exs_size, pieces_size, test_size, st_size, sts_size, st_code, sts_code, slots_of, entry_code, entry_size, func_code, func_size, entry_of, funcs_code, funcs_owners, funcs_entries, code_of}
 use Rattle.program_code.proofs.Rooms.{steps_from}
 use Rattle.program_code.proofs.Sizes.{length_func, place_sum, place_ends, lefts_sum, lefts_ends}
 use Rattle.program_code.proofs.Stands.{same_some, start_of, some_size, length_owners, stands, located, entered_from, exists}
@@ -34,20 +37,16 @@ module _ (fns : List Entry) (strings slots incoming start end : ℕ) where
   abbrev Ok : Instr → Type 0
   Ok (Const a w) = a < slots
   Ok (Zero a n) = (1 ≤ n) × (a + n ≤ slots)
-  Ok (Move a b) = (a < slots) × (b < slots)
-  Ok (MoveWords a b n) = (1 ≤ n) × (a + n ≤ slots) × (b + n ≤ slots)
-  Ok (Same a b c n) = (1 ≤ n) × (a < slots) × (b + n ≤ slots) × (c + n ≤ slots)
-  Ok (Differ a b c n) = (1 ≤ n) × (a < slots) × (b + n ≤ slots) × (c + n ≤ slots)
+  Ok (Move event a b n) = (1 ≤ n) × (a + n ≤ slots) × (b + n ≤ slots)
+  Ok (Same wanted a b c n) = (1 ≤ n) × (a < slots) × (b + n ≤ slots) × (c + n ≤ slots)
   Ok (Bin o a b c) = (a < slots) × (b < slots) × (c < slots)
   Ok (Un o a b) = (a < slots) × (b < slots)
   Ok (Jump goal) = (start ≤ goal) × (goal < end)
   Ok (JumpZero a goal) = (a < slots) × ((start ≤ goal) × (goal < end))
   Ok (Call g) = CanCall fns slots g
-  Ok (Argument a b) = (a < slots) × (b < incoming)
-  Ok (ArgumentWords a b n) = (1 ≤ n) × (a + n ≤ slots) × (b + n ≤ incoming)
-  Ok (SetResults a b n) = (1 ≤ n) × (a + n ≤ slots) × (b + n ≤ incoming)
+  Ok (Incoming direction a b n) = (1 ≤ n) × (a + n ≤ slots) × (b + n ≤ incoming)
   Ok (Load a b off n) = (1 ≤ n) × (a + n ≤ slots) × (b < slots)
-  Ok (Store a off c n) = (1 ≤ n) × (a < slots) × (c + n ≤ slots)
+  Ok (Store event a off c n) = (1 ≤ n) × (a < slots) × (c + n ≤ slots)
   Ok (Address a b) = (a < slots) × (b < slots)
   Ok (Offset a b off) = (a < slots) × (b < slots)
   Ok (Index a b c len w) = (1 ≤ len) × (1 ≤ w) × (a < slots) × (b < slots) × (c < slots)
@@ -100,15 +99,16 @@ module _ (p : Program) (solid : (site : ℕ) → 0 < site_width p site) (pl : Pl
   temp_in : (site : ℕ) → SiteFits s n site → temp s 0 + site_width p site ≤ room
   temp_in site f = let l = site_within s n site f in omega (arith, l)
 
-  moves_ok : (m a b : ℕ) (is : List Instr) → 0 < m → a + m ≤ room → b + m ≤ room → Are is → Are (moves m a b ∷ is)
-  moves_ok zero a b is some f g k = absurd (omega (arith, some))
-  moves_ok (suc zero) a b is some f g k = ((omega (arith, f), omega (arith, g)), k)
-  moves_ok (suc (suc m)) a b is some f g k = ((omega arith, f, g), k)
+  moved_ok : (event : MoveEvent) (m a b : ℕ) (is : List Instr) → 0 < m → a + m ≤ room → b + m ≤ room → Are is → Are (Move event a b m ∷ is)
+  moved_ok event m a b is some f g k = ((omega (arith, some), f, g), k)
 
   zeroed_ok : (m a : ℕ) (is : List Instr) → 0 < m → a + m ≤ room → Are is → Are (zeros m a ∷ is)
   zeroed_ok zero a is some f k = absurd (omega (arith, some))
   zeroed_ok (suc zero) a is some f k = (omega (arith, f), k)
   zeroed_ok (suc (suc m)) a is some f k = ((omega arith, f), k)
+
+  birth_ok : (site h : ℕ) (is : List Instr) → SiteFits s n site → h + site_width p site ≤ temps → Are is → Are (birth_code s site h ++ is)
+  birth_ok site h is f l k = let i = site_in site f in (i, moved_ok Silent (site_width p site) (site_slot s site) (temp s h) is (solid site) i (omega (arith, l)) k)
 
   move_ok : (m a b : ℕ) → a + m ≤ room → b + m ≤ room → Are (move_code m a b)
   move_ok zero a b f g = tt
@@ -125,7 +125,7 @@ module _ (p : Program) (solid : (site : ℕ) → 0 < site_width p site) (pl : Pl
       (can f there calls, move_ok gets (temp s h) given (omega arith) (omega arith))
 
   unary_ok : (op : UnOp) (h : ℕ) → h < temps → Are (unary_code op (temp s h) ∷ [])
-  unary_ok One.Plus h l = ((omega arith, omega arith), tt)
+  unary_ok One.Plus h l = ((omega arith, omega arith, omega arith), tt)
   unary_ok One.Negate h l = ((omega arith, omega arith), tt)
   unary_ok One.Complement h l = ((omega arith, omega arith), tt)
   unary_ok One.Not h l = ((omega arith, omega arith), tt)
@@ -179,22 +179,25 @@ module _ (p : Program) (solid : (site : ℕ) → 0 < site_width p site) (pl : Pl
   address_ok (local site steps) first at is a l f g =
       let k = part_in site steps f in let some = f.1 in steps_address_ok (site_slot s site) (site_type s site) steps first at is a l f.3 (omega (arith, k, some)) g
   address_ok (global number steps) first at is a l f g = (omega (arith, a), index_ok (global_type s number) steps first at is (omega (arith, a)) l f.3 g)
+  address_ok q first at is a l f g = absurd f
 
   fetch_part_ok : (site : ℕ) (steps : Steps) (k at h : ℕ) (is : List Instr) → h + part_words s site (path_of steps) ≤ temps → PlaceFits s n (local site steps) → at + k ≤ temps → Are is → Are (fetch_part s site steps k at h ∷ is)
-  fetch_part_ok site steps zero at h is l f a g = moves_ok (part_words s site (path_of steps)) (temp s h) (part_slot s site (path_of steps)) is f.1 (omega (arith, l)) (part_in site steps f) g
+  fetch_part_ok site steps zero at h is l f a g = moved_ok Read (part_words s site (path_of steps)) (temp s h) (part_slot s site (path_of steps)) is f.1 (omega (arith, l)) (part_in site steps f) g
   fetch_part_ok site steps (suc k) at h is l f a g = ((f.1, omega (arith, l), omega (arith, a)), g)
 
   land_part_ok : (site : ℕ) (steps : Steps) (k at h : ℕ) (is : List Instr) → h + part_words s site (path_of steps) ≤ temps → PlaceFits s n (local site steps) → at + k ≤ temps → Are is → Are (land_part s site steps k at h ∷ is)
-  land_part_ok site steps zero at h is l f a g = moves_ok (part_words s site (path_of steps)) (part_slot s site (path_of steps)) (temp s h) is f.1 (part_in site steps f) (omega (arith, l)) g
+  land_part_ok site steps zero at h is l f a g = moved_ok Write (part_words s site (path_of steps)) (part_slot s site (path_of steps)) (temp s h) is f.1 (part_in site steps f) (omega (arith, l)) g
   land_part_ok site steps (suc k) at h is l f a g = ((f.1, omega (arith, a), omega (arith, l)), g)
 
   fetch_ok : (q : Pl) (at h : ℕ) (is : List Instr) → h + reached s q ≤ temps → PlaceFits s n q → AddressFits temps at q → Are is → Are (fetch_code s q at h ∷ is)
   fetch_ok (local site steps) at h is l f a g = fetch_part_ok site steps (steps_far steps) at h is l f a g
   fetch_ok (global number steps) at h is l f a g = ((f.1, omega (arith, l), omega (arith, a)), g)
+  fetch_ok q at h is l f a g = absurd f
 
   land_ok : (q : Pl) (at h : ℕ) (is : List Instr) → h + reached s q ≤ temps → PlaceFits s n q → AddressFits temps at q → Are is → Are (land_code s q at h ∷ is)
   land_ok (local site steps) at h is l f a g = land_part_ok site steps (steps_far steps) at h is l f a g
   land_ok (global number steps) at h is l f a g = ((f.1, omega (arith, a), omega (arith, l)), g)
+  land_ok q at h is l f a g = absurd f
 
   -- the address of a place after its operands, which are in temps from h on
   read_ok : (q : Pl) (h : ℕ) → h + reached s q ≤ temps → PlaceFits s n q → AddressFits temps (place_above q h) q → Are (read_code s q (place_above q h) h)
@@ -223,14 +226,16 @@ module _ (p : Program) (solid : (site : ℕ) → 0 < site_width p site) (pl : Pl
     ex_ok (call g es) h pc f a l = join (exs_code p s es h pc) (call_code p s g h) (exs_ok es h pc f.1 a (omega arith)) (call_ok g h f.0)
     ex_ok (part_of m i e) h pc f a l =
         let t = type_named p m in let w = width (part_type t i) in let k = f.1 in let from = temp s (h + part_offset t i) in
-        join (ex_code p s e h pc) (moves w (temp s h) from ∷ []) (ex_ok e h pc f.2 a (omega arith)) (moves_ok w (temp s h) from [] f.0 (omega (arith, k)) (omega (arith, k)) tt)
+        join (ex_code p s e h pc) (Move Silent (temp s h) from w ∷ []) (ex_ok e h pc f.2 a (omega arith)) (moved_ok Silent w (temp s h) from [] f.0 (omega (arith, k)) (omega (arith, k)) tt)
     ex_ok (literal m es) h pc f a l =
         let t = type_named p m in let k = f.1 in zeroed_ok (width t) (temp s h) (elements_code p s t (ascend es) es h (pc + 1)) f.0 (omega (arith, k)) (elements_ok t (ascend es) es h (pc + 1) f.2 (omega arith) (omega arith))
+    ex_ok e h pc f a l = absurd f
 
     -- the operands of a place, and some instructions after them
     place_ok : (q : Pl) (h pc behind : ℕ) → OperandsFit p s n h q → start ≤ pc → pc + place_size p q behind < end → Are (place_code p s q h pc)
     place_ok (local site steps) h pc behind f a l = steps_ok steps h pc behind f a l
     place_ok (global g steps) h pc behind f a l = steps_ok steps h pc behind f a l
+    place_ok q h pc behind f a l = absurd f
 
     steps_ok : (steps : Steps) (h pc behind : ℕ) → StepsFitIn p s n h steps → start ≤ pc → pc + steps_size p steps behind < end → Are (steps_code p s steps h pc)
     steps_ok here h pc behind f a l = tt
@@ -247,8 +252,8 @@ module _ (p : Program) (solid : (site : ℕ) → 0 < site_width p site) (pl : Pl
     elements_ok t false (element i e es) h pc f a l =
         let w = width (part_type t i) in let k = f.1 in let b = f.2 in let next = pc + size p e + 1 in
         let to_temp = temp s (h + part_offset t i) in let from = temp s (h + width t) in let others = elements_code p s t false es h next in
-        join (ex_code p s e (h + width t) pc) (moves w to_temp from ∷ others) (ex_ok e (h + width t) pc f.3 a (omega arith))
-        (moves_ok w to_temp from others f.0 (omega (arith, k)) (omega (arith, b)) (elements_ok t false es h next f.4 (omega arith) (omega arith)))
+        join (ex_code p s e (h + width t) pc) (Move Silent to_temp from w ∷ others) (ex_ok e (h + width t) pc f.3 a (omega arith))
+        (moved_ok Silent w to_temp from others f.0 (omega (arith, k)) (omega (arith, b)) (elements_ok t false es h next f.4 (omega arith) (omega arith)))
 
     exs_ok : (es : Exs) (h pc : ℕ) → ExsFitIn p s n h es → start ≤ pc → pc + exs_size p es < end → Are (exs_code p s es h pc)
     exs_ok none h pc f a l = tt
@@ -283,12 +288,16 @@ module _ (p : Program) (solid : (site : ℕ) → 0 < site_width p site) (pl : Pl
   value_ok bools h is l g = (omega arith, g)
   value_ok (struct_of ts) h is l g = (omega arith, g)
   value_ok (array_of m t) h is l g = (omega arith, g)
+  value_ok (pointer_to m) h is l g = (omega arith, g)
+  value_ok (slice_of m) h is l g = (omega arith, g)
 
   raised_ok : (t : TypeTree) (h : ℕ) → h < temps → Are (raised_code t (temp s h) ∷ [])
   raised_ok ints h l = (omega arith, tt)
   raised_ok bools h l = (omega arith, tt)
   raised_ok (struct_of ts) h l = (omega arith, tt)
   raised_ok (array_of m t) h l = (omega arith, tt)
+  raised_ok (pointer_to m) h l = (omega arith, tt)
+  raised_ok (slice_of m) h l = (omega arith, tt)
 
   more_ok : (ps : List Piece) (h : ℕ) → PiecesFitIn p s n h ps → PiecesWithin strings ps → Are (show_more s ps h)
   more_ok [] h f w = (tt, tt)
@@ -311,7 +320,7 @@ module _ (p : Program) (solid : (site : ℕ) → 0 < site_width p site) (pl : Pl
   lefts_ok ns (blank ∷ ls) first at h b f = lefts_ok (other_widths ns) ls first at (h + first_width ns) b f.3
   lefts_ok ns (new site ∷ ls) first at h b f =
       let l = f.0 in let k = f.2 in
-      moves_ok (site_width p site) (site_slot s site) (temp s h) (lefts_code s (other_widths ns) ls first at (h + first_width ns)) (solid site) (site_in site f.1) (omega (arith, l, k)) (lefts_ok (other_widths ns) ls first at (h + first_width ns) b f.3)
+      birth_ok site h (lefts_code s (other_widths ns) ls first at (h + first_width ns)) f.1 (omega (arith, l, k)) (lefts_ok (other_widths ns) ls first at (h + first_width ns) b f.3)
   lefts_ok ns (to q ∷ ls) first at h b f =
       let l = f.0 in let k = f.2 in let above = place_above q first in let c = lefts_from p ls above in
       join (write_code s q first at h) (lefts_code s (other_widths ns) ls above at (h + first_width ns)) (write_ok q first at h (omega (arith, l, k)) f.1.0 f.1.1 (omega (arith, b, c))) (lefts_ok (other_widths ns) ls above at (h + first_width ns) b f.3)
@@ -326,7 +335,7 @@ module _ (p : Program) (solid : (site : ℕ) → 0 < site_width p site) (pl : Pl
   element_ok : (site x h v : ℕ) → SiteFits s n site → 0 < x → 0 < width (part_type (site_type s site) 0) → h < temps → v + 1 + width (part_type (site_type s site) 0) ≤ temps → Are (element_code s site x h v)
   element_ok site x h v f some wide k l =
       let own = site_in site f in let words = solid site in (
-        (omega (arith, l), omega (arith, k)),
+        (omega arith, omega (arith, l), omega (arith, k)),
         (
           (omega (arith, l, wide), omega (arith, own, words)),
           ((omega (arith, some), omega (arith, wide), omega (arith, l, wide), omega (arith, l, wide), omega (arith, k)), ((omega (arith, wide), omega (arith, l), omega (arith, l, wide)), tt)),
@@ -350,13 +359,13 @@ module _ (p : Program) (solid : (site : ℕ) → 0 < site_width p site) (pl : Pl
   named_write_ok : (sites : List ℕ) (h : ℕ) → SitesFit s n sites → h + sites_words s sites ≤ temps → Are (named_write_code s sites h)
   named_write_ok [] h f l = tt
   named_write_ok (site ∷ sites) h f l =
-      moves_ok (site_width p site) (site_slot s site) (temp s h) (named_write_code s sites (h + site_width p site)) (solid site) (site_in site f.0) (omega (arith, l)) (named_write_ok sites (h + site_width p site) f.1 (omega (arith, l)))
+      moved_ok Write (site_width p site) (site_slot s site) (temp s h) (named_write_code s sites (h + site_width p site)) (solid site) (site_in site f.0) (omega (arith, l)) (named_write_ok sites (h + site_width p site) f.1 (omega (arith, l)))
 
   named_read_ok : (sites : List ℕ) (i : ℕ) → SitesFit s n sites → i + sites_words s sites ≤ arguments + wanted → Are (named_read_code s sites i)
   named_read_ok [] i f l = tt
   named_read_ok (site ∷ sites) i f l =
       let w = site_width p site in let rest = named_read_code s sites (i + w) in
-      moves_ok w (temp s 0) (site_slot s site) (SetResults (temp s 0) i w ∷ rest) (solid site) (temp_in site f.0) (site_in site f.0)
+      moved_ok Read w (temp s 0) (site_slot s site) (Incoming FromSlots (temp s 0) i w ∷ rest) (solid site) (temp_in site f.0) (site_in site f.0)
       ((solid site, temp_in site f.0, omega (arith, l)), named_read_ok sites (i + w) f.1 (omega (arith, l)))
 
   leave_ok : (named : List ℕ) → SitesFit s n named → sites_words s named ≤ wanted → Are (leave_code s arguments named)
@@ -374,18 +383,18 @@ module _ (p : Program) (solid : (site : ℕ) → 0 < site_width p site) (pl : Pl
   params_ok (t ∷ ts) (None ∷ ps) i f l = params_ok ts ps (i + width t) f.2 (omega (arith, l))
   params_ok (t ∷ ts) (Some site ∷ ps) i f l =
       let some = solid site in let same = f.1 in let k = site_in site f.0 in
-      ((omega (arith, some, same), omega (arith, same, k), omega (arith, l)), params_ok ts ps (i + width t) f.2 (omega (arith, l)))
+      (k, ((omega (arith, some, same), omega (arith, same, k), omega (arith, l)), params_ok ts ps (i + width t) f.2 (omega (arith, l))))
 
   zeros_ok : (sites : List ℕ) → SitesFit s n sites → Are (zeros_code s sites)
   zeros_ok [] f = tt
-  zeros_ok (site ∷ sites) f = zeroed_ok (site_width p site) (site_slot s site) (zeros_code s sites) (solid site) (site_in site f.0) (zeros_ok sites f.1)
+  zeros_ok (site ∷ sites) f = (site_in site f.0, zeros_ok sites f.1)
 
   renewal_ok : (sites : List ℕ) (h : ℕ) → SitesFit s n sites → RenewFits s h sites → Are (renew_code s sites h)
   renewal_ok [] h f r = tt
   renewal_ok (site ∷ sites) h f r =
       let w = site_width p site in let k = r.0 in let rest = renew_code s sites h in
-      moves_ok w (temp s h) (site_slot s site) (moves w (site_slot s site) (temp s h) ∷ rest) (solid site) (omega (arith, k)) (site_in site f.0)
-      (moves_ok w (site_slot s site) (temp s h) rest (solid site) (site_in site f.0) (omega (arith, k)) (renewal_ok sites h f.1 r.1))
+      moved_ok Read w (temp s h) (site_slot s site) (birth_code s site h ++ rest) (solid site) (omega (arith, k)) (site_in site f.0)
+      (birth_ok site h rest f.0 (omega (arith, k)) (renewal_ok sites h f.1 r.1))
 
   module _ (named : List ℕ) (sites : SitesFit s n named) (names : sites_words s named ≤ wanted) where
     abbrev st_len : St → ℕ
@@ -490,7 +499,7 @@ module _ (p : Program) (solid : (site : ℕ) → 0 < site_width p site) (pl : Pl
       st_ok looped (range (over_copy site e x) key value body) h out again pc f w r a l =
           let k = f.0 in let words = f.2 in let above = f.8 in
           let ls = key ∷ value ∷ [] in let v = lefts_above ls (h + 1) in let wide = width (part_type (site_type s site) 0) in
-          let begin = pc + size p e + 1 in
+          let begin = pc + size p e + 2 in
           let inside = begin + 4 + lefts_sized p ls (4 + lefts_size ls) in
           let turn = inside + sts_len body in
           let behind = turn + 3 in
@@ -499,12 +508,13 @@ module _ (p : Program) (solid : (site : ℕ) → 0 < site_width p site) (pl : Pl
           let ready = ready_code p s ls (h + 1) (begin + 4) in let element = element_code s site x h v in let lefts = lefts_code s (1 ∷ wide ∷ []) ls (h + 1) (v + 1 + wide) v in
           let cb = code body (h + 1) behind turn inside in
           let rounds = array_code s x h (begin + 1) behind (ready ++ (element ++ lefts)) cb in
-          join (ex_code p s e h pc) (moves (site_width p site) (site_slot s site) (temp s h) ∷ rounds) (ex_ok e h pc f.6 a (omega arith))
-          (moves_ok (site_width p site) (site_slot s site) (temp s h) rounds (solid site) (site_in site f.1) (omega (arith, words))
+          join (ex_code p s e h pc) (birth_code s site h ++ rounds) (ex_ok e h pc f.6 a (omega arith))
+          (birth_ok site h rounds f.1 (omega (arith, words))
           (array_ok x h (begin + 1) behind (ready ++ (element ++ lefts)) cb k (omega arith, omega arith) here_behind
           (join ready (element ++ lefts) (ready_ok ls (h + 1) (begin + 4) (4 + lefts_size ls) f.7 (omega arith) (omega arith))
           (join element lefts (element_ok site x h v f.1 f.3 f.5 (omega (arith, k)) above) (lefts_ok (1 ∷ wide ∷ []) ls (h + 1) (v + 1 + wide) v (omega (arith, above)) f.9)))
           (sts_ok true body (h + 1) behind turn inside f.10 w (λ e. (here_behind, here_turn)) (omega arith) (omega arith))))
+      st_ok looped (range over key value body) h out again pc f w r a l = absurd f
       st_ok looped break_stmt h out again pc f w r a l = ((r w).0, tt)
       st_ok looped continue_stmt h out again pc f w r a l = ((r w).1, tt)
       st_ok looped (return_stmt es) h out again pc f w r a l =
@@ -548,20 +558,16 @@ module _ (owners : List ℕ) (f start end : ℕ) (own : (p : ℕ) → start ≤ 
   fits_at place slots incoming i k (inl e) = subst (λ j. FitsAt owners fns strings place f slots incoming j) (sym e) tt
   fits_at place slots incoming (Const a w) k (inr g) = (k, g)
   fits_at place slots incoming (Zero a n) k (inr g) = (k.0, k.1, g)
-  fits_at place slots incoming (Move a b) k (inr g) = (k.0, k.1, g)
-  fits_at place slots incoming (MoveWords a b n) k (inr g) = (k.0, k.1, k.2, g)
-  fits_at place slots incoming (Same a b c n) k (inr g) = (k.0, k.1, k.2, k.3, g)
-  fits_at place slots incoming (Differ a b c n) k (inr g) = (k.0, k.1, k.2, k.3, g)
+  fits_at place slots incoming (Move event a b n) k (inr g) = (k.0, k.1, k.2, g)
+  fits_at place slots incoming (Same wanted a b c n) k (inr g) = (k.0, k.1, k.2, k.3, g)
   fits_at place slots incoming (Bin o a b c) k (inr g) = (k.0, k.1, k.2, g)
   fits_at place slots incoming (Un o a b) k (inr g) = (k.0, k.1, g)
   fits_at place slots incoming (Jump goal) k (inr g) = own goal k.0 k.1
   fits_at place slots incoming (JumpZero a goal) k (inr g) = (k.0, own goal k.1.0 k.1.1, g)
   fits_at place slots incoming (Call c) k (inr g) = (k, g)
-  fits_at place slots incoming (Argument a b) k (inr g) = (k.0, k.1, g)
-  fits_at place slots incoming (ArgumentWords a b n) k (inr g) = (k.0, k.1, k.2, g)
-  fits_at place slots incoming (SetResults a b n) k (inr g) = (k.0, k.1, k.2, g)
+  fits_at place slots incoming (Incoming direction a b n) k (inr g) = (k.0, k.1, k.2, g)
   fits_at place slots incoming (Load a b off n) k (inr g) = (k.0, k.1, k.2, g)
-  fits_at place slots incoming (Store a off c n) k (inr g) = (k.0, k.1, k.2, g)
+  fits_at place slots incoming (Store event a off c n) k (inr g) = (k.0, k.1, k.2, g)
   fits_at place slots incoming (Address a b) k (inr g) = (k.0, k.1, g)
   fits_at place slots incoming (Offset a b off) k (inr g) = (k.0, k.1, g)
   fits_at place slots incoming (Index a b c len w) k (inr g) = (k.0, k.1, k.2, k.3, k.4, g)
@@ -586,6 +592,15 @@ module _ (owners : List ℕ) (f start end : ℕ) (own : (p : ℕ) → start ≤ 
 
 pub all_fit : (p : Program) (pl : Placement) → IsInForm p → IsPlaced p pl → (f : ℕ) (func : Func) → slice_get p.funcs f ≡ Some func → FuncFitsIn p pl func
 all_fit p pl form placed f func is = func_fits p pl func form (form.fits f func is) (placed.stacked f func is)
+
+-- functions lie one after the other
+laid : (p : Program) (pl : Placement) (gs : List Func) (pc : ℕ) → AreLaid (funcs_entries p pl gs pc) pc
+laid p pl [] pc = tt
+laid p pl (g ∷ gs) pc = (refl, some_size p pl g, laid p pl gs (pc + func_size p g))
+
+owned : (p : Program) (pl : Placement) (gs : List Func) (number pc : ℕ) → funcs_owners p gs number ≡ owners_of (funcs_entries p pl gs pc) number
+owned p pl [] number pc = refl
+owned p pl (g ∷ gs) number pc = ap (λ l. replicate (func_size p g) number ++ l) (owned p pl gs (number + 1) (pc + func_size p g))
 
 unlike : false ≡ true → ⊥
 unlike e = cc
@@ -661,15 +676,14 @@ module _ (p : Program) (pl : Placement) (form : IsInForm p) (placed : IsPlaced p
             ]);
       }
 
-  linked : (f : ℕ) (fn : Entry) → slice_get fns f ≡ Some fn → IsLinked owners f fn
+  linked : (f : ℕ) (fn : Entry) → slice_get fns f ≡ Some fn → IsLinked fn
   linked f fn e =
       let (func, is) = entered_from p pl p.funcs 0 f fn e in
       let start = start_of p pl p.funcs f in
       let r = stands p pl p.funcs 0 0 f func is in
       let z : 0 + start ≡ start = omega arith in
       let same : entry_of p pl func start ≡ fn = same_some (ap (λ q. Some (entry_of p pl func q)) (sym z) ∙ sym r.entry ∙ e) in
-      subst (λ (g : Entry). IsLinked owners f g) same
-      (record { frame = omega arith; start = own f func is start (omega arith) (let some = some_size p pl func in omega (arith, some)) })
+      subst (λ (g : Entry). IsLinked g) same (record { frame = omega arith })
 
   pub is_code : IsCode (code_of p pl)
-  is_code = record { same = length_owners p pl p.funcs 0 0; fits = fits_place; linked = linked }
+  is_code = record { laid = laid p pl p.funcs 0; owned = owned p pl p.funcs 0 0; same = length_owners p pl p.funcs 0 0; fits = fits_place; linked = linked }

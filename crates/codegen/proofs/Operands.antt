@@ -1,6 +1,6 @@
 -- Temps above the operands of places and left sides, and above an address.
 use Rattle.std.proofs.Common.{◌≡◌, ℕ, ◌+◌, ◌≤◌, List, [], ◌∷◌, arith}
-use Rattle.typed_syntax.specs.Syntax.{Program, Pl, Steps, Left, local, global, here, inner, at_index, blank, new, to}
+use Rattle.typed_syntax.specs.Syntax.{Program, Pl, Steps, Left, local, global, indirect, slice_element, here, inner, at_index, blank, new, to}
 use Rattle.frames.specs.Frames.{far, steps_far}
 use Rattle.program_code.specs.Code.{above_address, place_above, lefts_above}
 use Rattle.program_code.proofs.Rooms.{place_from}
@@ -13,6 +13,8 @@ steps_sum (at_index place e n steps) at = omega arith
 pub above_sum : (q : Pl) (at : ℕ) → above_address (far q) at ≡ at + far q
 above_sum (local site steps) at = steps_sum steps at
 above_sum (global g steps) at = omega arith
+above_sum (indirect at e n steps) h = steps_sum steps h
+above_sum (slice_element at e i n steps) h = omega arith
 
 pub lefts_from : (p : Program) (ls : List Left) (h : ℕ) → h ≤ lefts_above ls h
 lefts_from p [] h = omega arith

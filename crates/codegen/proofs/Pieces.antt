@@ -24,9 +24,9 @@ pub named_twice : (sites : List SiteId) → named_read_size (map (λ site. site.
 named_twice [] = refl
 named_twice (site ∷ sites) = omega (arith, named_twice sites)
 
-pub renewed_twice : (sites : List SiteId) → renew_size (map (λ site. site.0) sites) ≡ length sites + length sites
-renewed_twice [] = refl
-renewed_twice (site ∷ sites) = omega (arith, renewed_twice sites)
+pub renewed_thrice : (sites : List SiteId) → renew_size (map (λ site. site.0) sites) ≡ length sites + length sites + length sites
+renewed_thrice [] = refl
+renewed_thrice (site ∷ sites) = omega (arith, renewed_thrice sites)
 
 -- operands whose values have temps can be shown
 pub shown_fit : (p : Program) (s : Slots) (n h : ℕ) (ps : List Piece) → PiecesFitIn p s n h ps → ShownFit s h ps

@@ -5,7 +5,7 @@ use Rattle.std.proofs.lemmas.Option.{slice_get_within}
 use Rattle.std.proofs.lemmas.List.{length-map}
 use Rattle.std.proofs.Math.ListN.{get_or-map}
 use Rattle.typed_syntax.specs.Types.{TypeTree, ints, bools, array_of, width, part_count, part_type, part_offset}
-use Rattle.typed_syntax.specs.Value.{Value, int, bool, composite}
+use Rattle.typed_syntax.specs.Value.{Value, int, bool}
 use Rattle.typed_syntax.specs.Paths.{Leads}
 use Rattle.value_laws.proofs.Parts.{element, leads_to, within}
 use Rattle.typed_syntax.specs.Syntax.{Ex, Exs, Pl, Steps, Left, Piece, St, Sts, Func, Program, constant, read, unary, binary, logical_and, logical_or, call, part_of, literal, Elements, no_elements, element as element_then, local, global, here, inner, at_index, none, more, results, read_int, blank, new, to, text, shown, over_int, over_length, over_copy, declare, assign, update, bump, discard, block, if_stmt, for_stmt, range, break_stmt, continue_stmt, return_stmt, print, panic, exit, done, next, all_width, each_width, arguments_in, result_words, arguments_of, results_of, type_named, global_type, site_type, site_width, path_of, wide, all_wide, ascend, words_before}
@@ -80,7 +80,7 @@ module _ (p : Program) (form : IsInForm p) where
   wide_need : (scope : List ℕ) (t : TypeTree) (e : Ex) → ExFits p scope t e → wide p e ≤ need p e
   wide_need scope t (constant (int z)) f = omega arith
   wide_need scope t (constant (bool b)) f = omega arith
-  wide_need scope t (constant (composite vs)) f = absurd f.1
+  wide_need scope t (constant v) f = absurd f.1
   wide_need scope t (read q) f = omega arith
   wide_need scope t (unary op e) f = let l = wide_need scope t e f.1 in let w = wide_is p scope t e f.1 in let one = plain_one t (takes_one op t f.0) in omega arith
   wide_need scope t (binary at op a b) f =
@@ -91,6 +91,7 @@ module _ (p : Program) (form : IsInForm p) where
   wide_need scope t (part_of m i e) f =
       let s = type_named p m in let l = wide_need scope s e f.3 in let w = wide_is p scope s e f.3 in let part = part_within s i f.0 in omega (arith, l, w, part)
   wide_need scope t (literal m es) f = omega arith
+  wide_need scope t e f = absurd f
 
   values_need : (scope : List ℕ) (ts : List TypeTree) (es : Exs) → ExsFit p scope ts es → all_wide p es ≤ need_all p es
   values_need scope ts none f = omega arith
@@ -137,11 +138,13 @@ module _ (p : Program) (form : IsInForm p) where
         let own = variable_type s g in let lead = global_leads scope t g steps f in let is = global_width scope t g steps f in
         let there = f.0 in let some = f.2 in let l = within own t (path_of steps) (steps_lead scope own t steps lead) in
         (omega (arith, there, length-map p.globals (λ (v : ℕ × Value). v.0)), omega (arith, is, some), omega (arith, is, l), indices_fit scope own t steps lead some)
+    place_fits scope t q b f = absurd f
 
     -- the words of a place are those of its type
     reached_is : (scope : List ℕ) (t : TypeTree) (q : Pl) → PlFits p scope t q → reached s q ≤ width t
     reached_is scope t (local v steps) f = let is : part_words s v (path_of steps) ≡ width t = ap width (leads_to (site_type p v) t (path_of steps) (steps_lead scope (site_type p v) t steps f.1)) in omega (arith, is)
     reached_is scope t (global g steps) f = let is = global_width scope t g steps f in omega (arith, is)
+    reached_is scope t q f = absurd f
 
     -- the words of a place are among those that it needs
     reached_need : (scope : List ℕ) (t : TypeTree) (q : Pl) → PlFits p scope t q → reached s q ≤ need p (read q)
@@ -162,7 +165,7 @@ module _ (p : Program) (form : IsInForm p) where
       ex_fits : (h : ℕ) (scope : List ℕ) (t : TypeTree) (e : Ex) → Below s n scope → ExFits p scope t e → h + need p e ≤ temps → reach p e ≤ outgoing → Fits p s n h e
       ex_fits h scope t (constant (int z)) b f l o = omega arith
       ex_fits h scope t (constant (bool c)) b f l o = omega arith
-      ex_fits h scope t (constant (composite vs)) b f l o = absurd f.1
+      ex_fits h scope t (constant v) b f l o = absurd f.1
       ex_fits h scope t (read q) b f l o =
           (omega (arith, reached_need scope t q f, l), place_fits scope t q b f, place_room p temps h (far q) q (omega (arith, l)), operands_fit h scope t q (far q) 0 b f (omega (arith, l)) o)
       ex_fits h scope t (unary op e) b f l o = ((let k = some_need scope t e (plain_one t (takes_one op t f.0)) f.1 in omega arith), ex_fits h scope t e b f.1 l o)
@@ -190,11 +193,13 @@ module _ (p : Program) (form : IsInForm p) where
             omega (arith, l),
             elements_fit h scope s (ascend es) es b (subst (λ u. ElementsFit p scope u es) (sym f.0) f.2) (omega (arith, l)) (omega (arith, l)) o,
           )
+      ex_fits h scope t e b f l o = absurd f
 
       -- the operands of a place, and some temps after them
       operands_fit : (h : ℕ) (scope : List ℕ) (t : TypeTree) (q : Pl) (behind others : ℕ) → Below s n scope → PlFits p scope t q → h + place_need p q behind ≤ temps → place_reach p q others ≤ outgoing → OperandsFit p s n h q
       operands_fit h scope t (local v steps) behind others b f l o = steps_fit h scope (site_type p v) t steps behind others b f.1 l o
       operands_fit h scope t (global g steps) behind others b f l o = steps_fit h scope (global_type p g) t steps behind others b f.1 l o
+      operands_fit h scope t q behind others b f l o = absurd f
 
       steps_fit : (h : ℕ) (scope : List ℕ) (u t : TypeTree) (steps : Steps) (behind others : ℕ) → Below s n scope → StepsLead p scope u steps t → h + steps_need p steps behind ≤ temps → steps_reach p steps others ≤ outgoing
           → StepsFitIn p s n h steps
@@ -427,6 +432,7 @@ module _ (p : Program) (form : IsInForm p) where
                 subst (λ j. LeftsFitIn s n (v + 1 + w) v (1 ∷ j ∷ []) ls) (sym same) (lefts_fit (v + 1 + w) v (site ∷ scope) m (ints ∷ r ∷ []) ls a around lefts (omega (arith, room, same)) (omega (arith, address))),
                 sts_fit true (h + 1) (m + new_sites ls + 1) (scope_behind (site ∷ scope) ls) body (omega (arith, a)) (below_behind m (site ∷ scope) (site ∷ scope) (ints ∷ r ∷ []) ls a around lefts) inner_fit (omega arith) (omega (arith, calls, o)),
               )
+          st_fits looped h m scope (range over key value body) a b f k o = absurd f
           st_fits looped h m scope break_stmt a b f k o = tt
           st_fits looped h m scope continue_stmt a b f k o = tt
           st_fits looped h m scope (return_stmt es) a b f k o = (returned h scope es b f (omega arith) o, return_fits h scope es f (omega arith))

@@ -63,6 +63,7 @@ module _ (p : Program) (wanted : List TypeTree) (named : ℕ) where
     st_within looped scope m n (range (over_length x) key (to q) body) f = absurd f
     st_within looped scope m n (range (over_copy site e x) key value body) f =
         sts_within true (scope_behind (site ∷ scope) (key ∷ value ∷ [])) (m + new_sites (key ∷ value ∷ []) + 1) n body f.8
+    st_within looped scope m n (range over key value body) f = absurd f
     st_within looped scope m n break_stmt f = f
     st_within looped scope m n continue_stmt f = f
     st_within looped scope m n (return_stmt es) f = tt

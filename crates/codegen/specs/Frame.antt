@@ -1,13 +1,14 @@
 -- Functions in frames, and the code of statements by their parts.
 use Rattle.std.specs.Prelude.{ℕ, ◌+◌, ◌<◌, ◌≤◌, List, [], ◌∷◌, ◌++◌, Option, Some, None}
 use Rattle.isa.specs.declared.instr.Instr.{Instr}
-use Rattle.isa.specs.declared.instr.Instr.TheVariants.{ArgumentWords, Bin, Const, Jump, PrintText}
+use Rattle.isa.specs.declared.instr.Direction.TheVariants.{ToSlots}
+use Rattle.isa.specs.declared.instr.Instr.TheVariants.{Bin, Const, Incoming, Jump, PrintText}
 use Rattle.isa.specs.declared.instr.BinOp.TheVariants.{Add}
 use Rattle.typed_syntax.specs.declared.operators.BinOp.{BinOp}
 use Rattle.typed_syntax.specs.Syntax.{Ex, Exs, Pl, Func, Program as AnyProgram, Left, Piece, all_wide, value_widths, blank, new, to, text, shown, argument_words, result_words}
 use Rattle.frames.specs.Frames.{far}
 use Rattle.typed.specs.declared.program.Program.{Program}
-use Rattle.program_code.specs.Code.{Slots, temp, site_slot, site_words, moves, operation, shown_code, above_address, place_above, lefts_above, address_code, address_size, fetch_code, land_code, write_code, lefts_code, lefts_end, place_code, place_end, ready_code, ex_code, exs_code}
+use Rattle.program_code.specs.Code.{Slots, temp, site_slot, birth_code, born_code, operation, shown_code, above_address, place_above, lefts_above, address_code, address_size, fetch_code, land_code, write_code, lefts_code, lefts_end, place_code, place_end, ready_code, ex_code, exs_code}
 use Rattle.codegen.specs.Temps.{SitesFit, sites_words}
 use Rattle.expression_code.specs.declared.slots.Frame.{Frame}
 use Rattle.expression_code.specs.Frame.{slots_in}
@@ -19,7 +20,7 @@ Returns p frame f = SitesFit (slots_in p frame) frame.sites f.named × (sites_wo
 -- a left side, with operands in temps from `first` on, gets the words of temps from h on
 abbrev pub left_code : Slots → Left → (first at h : ℕ) → List Instr
 left_code s blank first at h = []
-left_code s (new site) first at h = moves (site_words s site) (site_slot s site) (temp s h) ∷ []
+left_code s (new site) first at h = birth_code s site h
 left_code s (to p) first at h = write_code s p first at h
 
 -- the left side that gets the index in a temp, after its operands
@@ -53,10 +54,10 @@ bump_code p s q op h pc =
     ++ (address_code s q h at
     ++ fetch_code s q at v ∷ (Const (temp s (v + 1)) 1 ∷ (Bin (operation op) (temp s v) (temp s v) (temp s (v + 1)) ∷ (land_code s q at v ∷ []))))
 
--- a parameter gets n incoming words from one on
+-- a parameter is born and gets n incoming words from one on
 abbrev pub param_code : Slots → Option ℕ → (n i : ℕ) → List Instr
 param_code s None n i = []
-param_code s (Some site) n i = ArgumentWords (site_slot s site) i n ∷ []
+param_code s (Some site) n i = born_code s site ∷ Incoming ToSlots (site_slot s site) i n ∷ []
 
 -- what shows an operand, one that is a value in temp h, and the temp of the next value
 abbrev pub show_piece : Slots → Piece → (h : ℕ) → Instr

@@ -99,6 +99,8 @@ module _ (p : Program) (s : Slots) (n : ℕ) where
           let w = width (part_type (site_type s site) 0) in let v = lefts_above (key ∷ value ∷ []) (h + 1) in
           (h + 1 < s.temps) × SiteFits s n site × (h + site_words s site ≤ s.temps) × (0 < x) × (x ≤ site_words s site) × (0 < w) × Fits p s n h e × ReadyFitIn (h + 1) (key ∷ value ∷ []) × (v + 1 + w ≤ s.temps)
           × LeftsFitIn s n (v + 1 + w) v (1 ∷ w ∷ []) (key ∷ value ∷ []) × StsFitIn (h + 1) body
+      -- no program in form has others
+      StFitsIn h (range over key value body) = ⊥
       StFitsIn h break_stmt = Unit {0}
       StFitsIn h continue_stmt = Unit {0}
       StFitsIn h (return_stmt es) = ExsFitIn p s n h es × ValuesFit s wanted h (all_wide p es) named

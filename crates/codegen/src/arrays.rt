@@ -8,13 +8,14 @@ ghost use Rattle.typed.specs.View.{ex_of, left_of, program_of, sts_of};
 ghost use Rattle.expression_code.specs.Frame.{func_in, slots_in, IsLaid};
 ghost use Rattle.expression_code.specs.Temps.{Fits, SiteFits};
 ghost use Rattle.codegen.specs.Temps.{LeftsFitIn, ReadyFitIn};
-ghost use Rattle.program_code.specs.Code.{element_code, element_round_code, ex_code, lefts_above, moves as moves_of, site_slot, site_type, site_words, sts_size, temp};
+ghost use Rattle.program_code.specs.Code.{birth_code, element_code, element_round_code, ex_code, lefts_above, site_type, site_words, size, sts_size, temp};
 
 use crate::assigning::{above_left, emit_left, ready_left};
-use crate::looping::{pass_unless_less, round_goals};
+use crate::births::emit_birth;
+use crate::looping::{behind_value, pass_unless_less, round_goals};
 use crate::stmt_lengths::ARRAY_HEAD;
 use base::{NoMemory, SiteId};
-use expression_code::{Frame, Goals, emit_expr, moves, plus, put};
+use expression_code::{Frame, Goals, emit_expr, plus, put, silent};
 use frame_layout::element_words;
 use isa::Instr;
 use typed::{Expr, Func, Left, Program, Stmt};
@@ -37,7 +38,14 @@ pub fn array_goals(
     round_goals(program, func, inside, body)
 }
 
-/// The copy of a site gets the array.
+/// The place after an array and what is born as its copy.
+pub fn behind_copy(program: &Program, start: u32, e: &Expr) -> Result<u32, NoMemory>
+    ensures { IfOk result (λ n. n ≡ start + size (program_of program.now) (ex_of e.now) + 2) }
+{
+    plus(behind_value(program, start, e)?, 1)
+}
+
+/// The copy of a site is born with the array.
 pub fn emit_copy(
     code: &mut Vec<Instr>,
     program: &Program,
@@ -52,13 +60,10 @@ pub fn emit_copy(
     requires frame { IsLaid program.now frame.now }
     ensures { OnOk result (code.new.items ≡ code.old.items
         ++ (ex_code (program_of program.now) (slots_in program.now frame.now) (ex_of e.now) h (length code.old.items)
-        ++ moves_of (site_words (slots_in program.now frame.now) site.0) (site_slot (slots_in program.now frame.now) site.0)
-        (temp (slots_in program.now frame.now) h) ∷ [])) }
+        ++ birth_code (slots_in program.now frame.now) site.0 h)) }
 {
     emit_expr(code, program, frame, e, h)?;
-    let (a, n) = (frame.of_site(program, site), frame.width_of(program, site));
-    put(code, moves(n, a, frame.temp(h)))?;
-    Ok(())
+    emit_birth(code, program, frame, site, h)
 }
 
 /// The index begins at 0. Where it is not below the length, goes on at a place.
@@ -110,13 +115,7 @@ fn emit_element(
 {
     let (index, a) = (frame.temp(h), frame.temp(v + 1));
     let (len, w) = (count as u16, element_words(program, site) as u16);
-    put(
-        code,
-        Instr::Move {
-            a: frame.temp(v),
-            b: index,
-        },
-    )?;
+    put(code, silent(1, frame.temp(v), index))?;
     put(
         code,
         Instr::Address {

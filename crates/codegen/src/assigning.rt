@@ -10,10 +10,11 @@ ghost use Rattle.expression_code.specs.Temps.{ExsFitIn, Fits, OperandsFit, Place
 ghost use Rattle.codegen.specs.Temps.{LeftFits, LeftsFitIn, ReadyFitIn};
 ghost use Rattle.program_code.specs.Code.{above_address as above_address_of, lefts_above as above_all, lefts_code, place_above, ready_code};
 
+use crate::births::emit_birth;
 use base::NoMemory;
 use expression_code::{
     Frame, above_address, above_operands, emit_address, emit_expr, emit_fetch, emit_land,
-    emit_operation, emit_place, emit_values, emit_write, moves, put, value_words,
+    emit_operation, emit_place, emit_values, emit_write, put, value_words,
 };
 use frame_layout::values_words;
 use isa::Instr;
@@ -106,8 +107,7 @@ pub fn emit_left(
     match left {
         Left::Blank => {}
         Left::New(site) => {
-            let (a, b) = (frame.of_site(program, *site), frame.temp(h));
-            put(code, moves(frame.width_of(program, *site), a, b))?;
+            emit_birth(code, program, frame, *site, h)?;
         }
         Left::To(place) => emit_write(code, program, frame, place, first, at, h)?,
     }

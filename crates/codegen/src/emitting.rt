@@ -7,7 +7,7 @@ ghost use Rattle.codegen.specs.Frame.{Returns};
 ghost use Rattle.codegen.specs.Temps.{StFitsIn, StsFitIn};
 ghost use Rattle.program_code.specs.Code.{st_code, sts_code};
 
-use crate::arrays::{array_goals, emit_array_start, emit_copy, emit_pair};
+use crate::arrays::{array_goals, behind_copy, emit_array_start, emit_copy, emit_pair};
 use crate::assigning::{emit_assign, emit_bump, emit_update};
 use crate::looping::{
     behind_value, count_goals, emit_count_start, emit_count_test, emit_key, emit_renewal,
@@ -71,7 +71,7 @@ fn emit_stmt(
             emit_indices(code, program, frame, func, body, *count, key, h)?;
         }
         Stmt::Elements(site, e, count, key, value, body) => {
-            let begin = behind_value(program, start, e)?;
+            let begin = behind_copy(program, start, e)?;
             let inner = array_goals(program, func, begin, pair_len(program, key, value)?, body)?;
             emit_copy(code, program, frame, *site, e, h)?;
             emit_array_start(code, program, frame, *count, h, inner.out)?;
@@ -79,6 +79,8 @@ fn emit_stmt(
             emit_stmts(code, program, frame, func, body, h + 1, inner)?;
             emit_turn(code, program, frame, h, plus(begin, 1)?)?;
         }
+        // These have no code yet.
+        Stmt::SliceElements(..) | Stmt::PointedElements(..) | Stmt::PointedIndices(..) => {}
         Stmt::Break => put(code, Instr::Jump { to: goals.out })?,
         Stmt::Continue => put(code, Instr::Jump { to: goals.again })?,
         Stmt::Return(values) => emit_return(code, program, frame, func, values, h)?,

@@ -14,6 +14,7 @@
 
 mod arrays;
 mod assigning;
+mod births;
 mod emitting;
 mod looping;
 mod program;

@@ -11,10 +11,11 @@ ghost use Rattle.codegen.specs.Temps.{LeftFits, ReadyFitIn, RenewFits, SitesFit,
 ghost use Rattle.program_code.specs.Code.{ex_code, index_round_size, lefts_above, renew_code, renew_size, size, sts_size, temp, test_code, test_size};
 
 use crate::assigning::{above_left, emit_left, ready_left};
+use crate::births::emit_birth;
 use crate::stmt_lengths::{TURN, key_len, renew_len, stmts_len};
 use base::{NoMemory, SiteId};
-use expression_code::{Frame, Goals, emit_expr, last_len, moves, plus, put, test_len};
-use isa::Instr;
+use expression_code::{Frame, Goals, emit_expr, last_len, plus, put, test_len};
+use isa::{Instr, MoveEvent};
 use typed::{Expr, Func, Left, Program, Stmt};
 
 /// The test of a `range` over a number, and its jump.
@@ -46,7 +47,7 @@ pub fn emit_test(
     Ok(())
 }
 
-/// A new round's variables get the words of the old ones, through temps from h on.
+/// A new round's variables are born and get the words of the old ones, through temps from h on.
 pub fn emit_renewal(
     code: &mut Vec<Instr>,
     program: &Program,
@@ -63,8 +64,16 @@ pub fn emit_renewal(
     for site in sites {
         let (old, moved) = (frame.of_site(program, *site), frame.temp(h));
         let n = frame.width_of(program, *site);
-        put(code, moves(n, moved, old))?;
-        put(code, moves(n, old, moved))?;
+        put(
+            code,
+            Instr::Move {
+                event: MoveEvent::Read,
+                a: moved,
+                b: old,
+                n,
+            },
+        )?;
+        emit_birth(code, program, frame, *site, h)?;
     }
     Ok(())
 }

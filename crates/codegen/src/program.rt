@@ -23,7 +23,7 @@ use typed::{Func, Program};
 #[derive(Drop)]
 struct Parts {
     instrs: Vec<Instr>,
-    owners: Vec<u16>,
+    owners: Vec<u32>,
     funcs: Vec<isa::Func>,
 }
 
@@ -53,7 +53,7 @@ fn emit_func(
 
 // `places` places belong to a function.
 #[tactic(auto, using(crate::proofs::Whole::own_next))]
-fn own(owners: &mut Vec<u16>, number: u16, places: usize) -> Result<(), NoMemory>
+fn own(owners: &mut Vec<u32>, number: u32, places: u32) -> Result<(), NoMemory>
     ensures { OnOk result (owners.new.items ≡ owners.old.items ++ replicate places number) }
 {
     let mut left = places;
@@ -98,7 +98,7 @@ fn add(
     program: &Program,
     func: &Func,
     layout: FrameLayout,
-    number: u16,
+    number: u32,
     homes: Homes,
 ) -> Result<Homes, NoMemory>
     requires globals { homes.globals.items ≡ addresses_of program.now }
@@ -115,8 +115,9 @@ fn add(
     let start = here(&parts.instrs)?;
     let frame = Frame::new(alloc, program, func, layout, homes)?;
     emit_func(&mut parts.instrs, program, &frame, func)?;
-    let places = parts.instrs.len() - start as usize;
-    own(&mut parts.owners, number, places)?;
+    let end = here(&parts.instrs)?;
+    let size = end - start;
+    own(&mut parts.owners, number, size)?;
     let arguments = all_words(program, &func.param_types)? as u16;
     let results = all_words(program, &func.results)? as u16;
     let entry = isa::Func {
@@ -124,6 +125,7 @@ fn add(
         arguments,
         results,
         start,
+        size,
     };
     put_entry(&mut parts.funcs, entry)?;
     Ok(frame.into_homes())
@@ -153,7 +155,7 @@ pub fn emit(
     };
     let globals = global_addresses(alloc, program)?;
     let mut homes = Homes { placement, globals };
-    let mut number: u16 = 0;
+    let mut number: u32 = 0;
     for func in funcs {
         let layout = frames[number as usize];
         homes = add(alloc, &mut parts, program, func, layout, number, homes)?;

@@ -9,13 +9,14 @@ ghost use Rattle.expression_code.specs.Temps.{ExsFitIn};
 ghost use Rattle.codegen.specs.Temps.{ParamFits, ParamsFitIn, SitesFit, ValuesFit, sites_words};
 ghost use Rattle.program_code.specs.Code.{exs_code, leave_code, named_read_code, named_write_code, params_code, result_code, values_code, zeros_code};
 
+use crate::births::born;
 use base::{NoMemory, SiteId, TypeId};
-use expression_code::{Frame, emit_values, moves, nth_words, put, zeros};
+use expression_code::{Frame, emit_values, nth_words, put};
 use frame_layout::{all_words, values_words};
-use isa::Instr;
+use isa::{Direction, Instr, MoveEvent};
 use typed::{Func, Program, Values};
 
-// A parameter with a site gets `n` incoming words from one on.
+// A parameter with a site is born and gets `n` incoming words from one on.
 fn emit_param(
     code: &mut Vec<Instr>,
     program: &Program,
@@ -30,8 +31,17 @@ fn emit_param(
         ++ param_code (slots_in program.now frame.now) (site_in param) n word) }
 {
     if let Some(site) = param {
+        put(code, born(program, frame, site))?;
         let a = frame.of_site(program, site);
-        put(code, Instr::ArgumentWords { a, b: word, n })?;
+        put(
+            code,
+            Instr::Incoming {
+                direction: Direction::ToSlots,
+                a,
+                b: word,
+                n,
+            },
+        )?;
     }
     Ok(())
 }
@@ -61,7 +71,7 @@ pub fn emit_params(
     Ok(())
 }
 
-/// New variables are 0.
+/// Variables with zeros are born.
 pub fn emit_zeros(
     code: &mut Vec<Instr>,
     program: &Program,
@@ -74,11 +84,7 @@ pub fn emit_zeros(
         ++ zeros_code (slots_in program.now frame.now) (site_numbers sites.now)) }
 {
     for site in sites {
-        let (a, n) = (
-            frame.of_site(program, *site),
-            frame.width_of(program, *site),
-        );
-        put(code, zeros(n, a))?;
+        put(code, born(program, frame, *site))?;
     }
     Ok(())
 }
@@ -103,7 +109,8 @@ fn emit_named_writes(
             frame.of_site(program, *site),
             frame.width_of(program, *site),
         );
-        put(code, moves(n, a, frame.temp(next)))?;
+        let (event, b) = (MoveEvent::Write, frame.temp(next));
+        put(code, Instr::Move { event, a, b, n })?;
         next += n;
     }
     Ok(())
@@ -114,7 +121,15 @@ fn emit_results(code: &mut Vec<Instr>, n: u16, a: u16, word: u16) -> Result<(), 
     ensures { OnOk result (code.new.items ≡ code.old.items ++ result_code n a word) }
 {
     if n > 0 {
-        put(code, Instr::SetResults { a, b: word, n })?;
+        put(
+            code,
+            Instr::Incoming {
+                direction: Direction::FromSlots,
+                a,
+                b: word,
+                n,
+            },
+        )?;
     }
     Ok(())
 }
@@ -140,9 +155,24 @@ fn emit_named_reads(
             frame.of_site(program, *site),
             frame.width_of(program, *site),
         );
-        put(code, moves(n, temp, slot))?;
-        let (a, b) = (temp, word);
-        put(code, Instr::SetResults { a, b, n })?;
+        put(
+            code,
+            Instr::Move {
+                event: MoveEvent::Read,
+                a: temp,
+                b: slot,
+                n,
+            },
+        )?;
+        put(
+            code,
+            Instr::Incoming {
+                direction: Direction::FromSlots,
+                a: temp,
+                b: word,
+                n,
+            },
+        )?;
         word += n;
     }
     Ok(())

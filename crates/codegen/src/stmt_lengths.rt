@@ -15,6 +15,9 @@ use typed::{Expr, Func, Left, Piece, Place, Program, Stmt, Values};
 /// A bump: a read, a constant, the operation and a write, without the address.
 const BUMP: u32 = 4;
 
+/// The birth of a variable that gets a value.
+const BIRTH: u32 = 2;
+
 /// `range`: what stands before its test, and the test with its jump.
 const COUNT_HEAD: u32 = 3;
 
@@ -85,7 +88,7 @@ fn lefts_len(ls: &[Left]) -> Result<u32, NoMemory>
     for left in ls {
         match left {
             Left::Blank => {}
-            Left::New(_) => total = plus(total, 1)?,
+            Left::New(_) => total = plus(total, BIRTH)?,
             Left::To(place) => {
                 let address = address_len(place)?;
                 let write = plus(address, 1)?;
@@ -194,13 +197,14 @@ fn choice_len(program: &Program, e: &Expr, yes: u32, no: u32) -> Result<u32, NoM
     plus(second, no)
 }
 
-/// The moves of a loop's variables to those of the next round.
-#[tactic(auto, using(crate::proofs::Pieces::renewed_twice))]
+/// The births of a loop's variables for the next round, each with a read of the old one.
+#[tactic(auto, using(crate::proofs::Pieces::renewed_thrice))]
 pub fn renew_len(sites: &[SiteId]) -> Result<u32, NoMemory>
     ensures { IfOk result (λ n. n ≡ renew_size (site_numbers sites.now)) }
 {
     let n = number(sites.len())?;
-    plus(n, n)
+    let births = plus(n, n)?;
+    plus(births, n)
 }
 
 // A loop whose body and post statement have `body` and `post`.
@@ -238,7 +242,7 @@ fn left_len(left: &Left) -> Result<u32, NoMemory>
 {
     match left {
         Left::Blank => Ok(0),
-        Left::New(_) => Ok(1),
+        Left::New(_) => Ok(BIRTH),
         Left::To(place) => {
             let address = address_len(place)?;
             plus(address, 1)
@@ -296,7 +300,7 @@ fn indices_len(program: &Program, key: &Left, body: u32) -> Result<u32, NoMemory
     array_len(key_len(program, key)?, body)
 }
 
-// One over its elements: the operand and its move to the copy come first.
+// One over its elements: the operand and the birth of its copy come first.
 fn elements_len(
     program: &Program,
     e: &Expr,
@@ -304,10 +308,10 @@ fn elements_len(
     value: &Left,
     body: u32,
 ) -> Result<u32, NoMemory>
-    ensures { IfOk result (λ n. n ≡ size (program_of program.now) (ex_of e.now) + 1 +
+    ensures { IfOk result (λ n. n ≡ size (program_of program.now) (ex_of e.now) + 2 +
         (4 + element_round_size (program_of program.now) (left_of key.now) (left_of value.now) + body + 3)) }
 {
-    let copy = last_len(program, e)?;
+    let copy = plus(last_len(program, e)?, 1)?;
     let rounds = array_len(pair_len(program, key, value)?, body)?;
     plus(copy, rounds)
 }
@@ -347,6 +351,8 @@ fn stmt_len(program: &Program, func: &Func, s: &Stmt) -> Result<u32, NoMemory>
             let inside = stmts_len(program, func, body)?;
             elements_len(program, e, key, value, inside)
         }
+        // These have no code yet.
+        Stmt::SliceElements(..) | Stmt::PointedElements(..) | Stmt::PointedIndices(..) => Ok(0),
         Stmt::Break => Ok(1),
         Stmt::Continue => Ok(1),
         Stmt::Return(values) => return_len(program, func, values),

@@ -9,7 +9,9 @@ use Rattle.typed_syntax.specs.Types.{TypeTree, part_offset, part_type, width}
 use Rattle.typed_syntax.specs.Syntax.{Elements, Program, ascend, element, gap_behind, literal, type_named, words_through}
 use Rattle.typed.specs.View.{elements_of, ex_of}
 use Rattle.expression_code.specs.Temps.{ElementsFitIn, Fits}
-use Rattle.program_code.specs.Code.{Slots, elements_code, ex_code, gap_code, gap_size, moves, size, temp, zeros}
+use Rattle.isa.specs.declared.instr.MoveEvent.TheVariants.{Silent}
+use Rattle.isa.specs.declared.instr.Instr.TheVariants.{Move}
+use Rattle.program_code.specs.Code.{Slots, elements_code, ex_code, gap_code, gap_size, size, temp, zeros}
 use Rattle.program_code.proofs.Sizes.{length_code, length_gap, length_last}
 
 -- one, and those after it
@@ -49,15 +51,15 @@ module _ (p : Program) (s : Slots) (t : TypeTree) (es : List Element) (i : ℕ) 
       ∙ ap (λ c. (c ++ zeroed) ++ others end) (sym f1) ∙ ap (λ c. c ++ others end) (sym f2) ∙ ap (λ k. c2 ++ others k) n
 
   pub moved_emitted : (whole code c1 c2 : List Instr) (h from : ℕ) → from ≡ h + width t → whole ≡ code ++ elements_code p s t false (elements_of (drop i es)) h (length code)
-      → c1 ≡ code ++ ex_code p s (ex_of e) from (length code) → c2 ≡ c1 ++ moves (width (part_type t number)) (temp s (h + part_offset t number)) (temp s from) ∷ [] → x ≡ item.For number e
+      → c1 ≡ code ++ ex_code p s (ex_of e) from (length code) → c2 ≡ c1 ++ Move Silent (temp s (h + part_offset t number)) (temp s from) (width (part_type t number)) ∷ [] → x ≡ item.For number e
       → whole ≡ c2 ++ elements_code p s t false behind h (length c2)
   moved_emitted whole code c1 c2 h from ef e0 e1 e2 for =
-      let move = moves (width (part_type t number)) (temp s (h + part_offset t number)) (temp s (h + width t)) in
+      let move = Move Silent (temp s (h + part_offset t number)) (temp s (h + width t)) (width (part_type t number)) in
       let value = ex_code p s (ex_of e) (h + width t) (length code) in
       let rest : ℕ → List Instr = λ pc. elements_code p s t false behind h pc in
       let end = length code + size p (ex_of e) + 1 in
       let f1 : c1 ≡ code ++ value = e1 ∙ ap (λ k. code ++ ex_code p s (ex_of e) k (length code)) ef in
-      let f2 : c2 ≡ c1 ++ move ∷ [] = e2 ∙ ap (λ k. c1 ++ moves (width (part_type t number)) (temp s (h + part_offset t number)) (temp s k) ∷ []) ef in
+      let f2 : c2 ≡ c1 ++ move ∷ [] = e2 ∙ ap (λ k. c1 ++ Move Silent (temp s (h + part_offset t number)) (temp s k) (width (part_type t number)) ∷ []) ef in
       let n : end ≡ length c2 = omega (arith, ap length f2, length_last c1 move, ap length f1, length-append code value, length_code p s (ex_of e) (h + width t) (length code)) in
       e0 ∙ ap (λ (y : Elements). code ++ elements_code p s t false y h (length code)) (split_elements es i x number e l is for)
       ∙ sym (append_assoc code value (move ∷ rest end)) ∙ sym (append_assoc (code ++ value) (move ∷ []) (rest end))

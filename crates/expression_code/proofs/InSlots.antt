@@ -1,11 +1,11 @@
 -- Sites in their slots, and how words are moved there.
 use Rattle.std.proofs.Common.{◌≡◌, ◌≢◌, ℕ, zero, suc, ◌+◌, ◌-◌, ◌<◌, ◌≤◌, List, get_or, length, refl, ap, ◌∙◌, arith}
-use Rattle.isa.specs.declared.instr.Instr.TheVariants.{MoveWords, Zero}
+use Rattle.isa.specs.declared.instr.Instr.TheVariants.{Zero}
 use Rattle.typed_syntax.specs.Types.{TypeTree}
 use Rattle.frames.specs.Placement.{Placement}
 use Rattle.frames.specs.Frames.{stack_words, words_between}
 use Rattle.frame_layout.specs.Layout.{starts}
-use Rattle.program_code.specs.Code.{Slots, site_words, moves, zeros}
+use Rattle.program_code.specs.Code.{Slots, site_words, zeros}
 use Rattle.program_code.proofs.Sites.{between_next, stack_is}
 use Rattle.expression_code.specs.Temps.{SiteFits}
 
@@ -29,11 +29,6 @@ start_of l sites from before (suc n) (suc k) d lt = let r = start_of l sites (su
 
 pub start_is : (l : Placement) (sites : List TypeTree) (from before n k x : ℕ) (items : List ℕ) → items ≡ starts l sites from before n → k < n → x ≡ get_or items k x → x ≡ before + words_between l sites from k
 start_is l sites from before n k x items same lt is = is ∙ ap (λ ns. get_or ns k x) same ∙ start_of l sites from before n k x lt
-
-pub moves_many : (n a b : ℕ) → n ≢ 1 → moves n a b ≡ MoveWords a b n
-moves_many zero a b other = refl
-moves_many (suc zero) a b other = absurd (other refl)
-moves_many (suc (suc n)) a b other = refl
 
 pub zeros_many : (n a : ℕ) → n ≢ 1 → zeros n a ≡ Zero a n
 zeros_many zero a other = refl

@@ -1,6 +1,7 @@
 -- The instruction of an operator, by the words of its operands.
 use Rattle.std.proofs.Common.{◌≡◌, ◌≢◌, ℕ, zero, suc, refl}
-use Rattle.isa.specs.declared.instr.Instr.TheVariants.{Bin, Same, Differ}
+use Rattle.isa.specs.declared.instr.Sameness.TheVariants as Wanted
+use Rattle.isa.specs.declared.instr.Instr.TheVariants.{Bin, Same}
 use Rattle.typed_syntax.specs.declared.operators.BinOp.{BinOp}
 use Rattle.typed_syntax.specs.declared.operators.BinOp.TheVariants.{Add, Sub, Mul, Div, Rem, And, Or, Xor, AndNot, ShiftLeft, ShiftRight, Equal, NotEqual, Less, LessEqual, Greater, GreaterEqual}
 use Rattle.program_code.specs.Code.{operation, binary_code}
@@ -25,12 +26,12 @@ binary_one LessEqual a b = refl
 binary_one Greater a b = refl
 binary_one GreaterEqual a b = refl
 
-pub same_many : (n a b : ℕ) → n ≢ 1 → binary_code Equal n a b ≡ Same a a b n
+pub same_many : (n a b : ℕ) → n ≢ 1 → binary_code Equal n a b ≡ Same Wanted.Equal a a b n
 same_many zero a b other = refl
 same_many (suc zero) a b other = absurd (other refl)
 same_many (suc (suc n)) a b other = refl
 
-pub differ_many : (n a b : ℕ) → n ≢ 1 → binary_code NotEqual n a b ≡ Differ a a b n
+pub differ_many : (n a b : ℕ) → n ≢ 1 → binary_code NotEqual n a b ≡ Same Wanted.Different a a b n
 differ_many zero a b other = refl
 differ_many (suc zero) a b other = absurd (other refl)
 differ_many (suc (suc n)) a b other = refl

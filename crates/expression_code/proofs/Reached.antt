@@ -1,6 +1,6 @@
 -- The parts of variables that are within the slots of a frame.
 use Rattle.std.proofs.Common.{◌≡◌, ℕ, zero, suc, ◌+◌, ◌≤◌, get_or, sym, subst, arith}
-use Rattle.typed_syntax.specs.Types.{TypeTree, PartTypes, ints, bools, struct_of, array_of, no_types, more_types, width, widths, part_type, nth_type, repeated}
+use Rattle.typed_syntax.specs.Types.{TypeTree, PartTypes, ints, bools, struct_of, array_of, pointer_to, slice_of, no_types, more_types, width, widths, part_type, nth_type, repeated}
 use Rattle.typed_syntax.specs.Paths.{offset, type_at}
 use Rattle.value_laws.proofs.Parts.{width_repeated}
 use Rattle.typed_syntax.specs.Syntax.{Steps, global, local, path_of, site_type}
@@ -23,6 +23,8 @@ part_most ints i m one l = one
 part_most bools i m one l = one
 part_most (struct_of ts) i m one l = nth_most ts i m one l
 part_most (array_of n t) i m one l = nth_most (repeated n t) i m one (let e = width_repeated n t in omega (arith, e, l))
+part_most (pointer_to n) i m one l = one
+part_most (slice_of n) i m one l = one
 
 -- a place's words, and those before it, are told by 16 bits
 pub place_small : (p : Program) (frame : Frame) (site : ℕ) (steps : Steps) (t : TypeTree) → IsLaid p frame → PlaceFits (slots_in p frame) frame.sites (local site steps) → t ≡ site_type (program_of p) site

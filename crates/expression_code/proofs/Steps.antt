@@ -11,12 +11,12 @@ use Rattle.typed.specs.declared.expr.Step.TheVariants as way
 use Rattle.typed_syntax.specs.Types.{TypeTree, width, part_type, part_offset}
 use Rattle.typed_syntax.specs.Paths.{offset, type_at}
 use Rattle.typed.specs.Positions.{position}
-use Rattle.typed_syntax.specs.Syntax.{Program, Pl, local, global, Steps, here, inner, at_index, path_of}
+use Rattle.typed_syntax.specs.Syntax.{Program, global, Steps, here, inner, at_index, path_of}
 use Rattle.frames.specs.Frames.{steps_far}
 use Rattle.typed.specs.View.{ex_of, place_of, steps_of}
 use Rattle.expression_code.specs.Parts.{part_number}
-use Rattle.expression_code.specs.Temps.{IndicesFit, OperandsFit, StepsFitIn, steps_in}
-use Rattle.program_code.specs.Code.{Slots, temp, address_code, global_address, global_type, far_offset, index_code, index_count, steps_above, steps_address, steps_address_size, steps_code, steps_size, ex_code, place_above, place_code, place_size, size}
+use Rattle.expression_code.specs.Temps.{IndicesFit, StepsFitIn}
+use Rattle.program_code.specs.Code.{Slots, temp, address_code, global_address, global_type, far_offset, index_code, index_count, steps_above, steps_address, steps_address_size, steps_code, steps_size, ex_code, place_size, size}
 use Rattle.program_code.proofs.Sizes.{length_code, place_sum}
 
 -- one, and those after it
@@ -170,23 +170,6 @@ above_least h here = omega arith
 above_least h (inner i steps) = above_least h steps
 above_least h (at_index at e n steps) = let k = above_least (h + 1) steps in omega arith
 
--- the operands of a place are those of its steps
-pub above_place : (q : Pl) (h : ℕ) → place_above q h ≡ steps_above (steps_in q) h
-above_place (local site steps) h = refl
-above_place (global g steps) h = refl
-
-pub size_place : (p : Program) (q : Pl) (n : ℕ) → place_size p q n ≡ steps_size p (steps_in q) n
-size_place p (local site steps) n = refl
-size_place p (global g steps) n = refl
-
-pub code_place : (p : Program) (s : Slots) (q : Pl) (h pc : ℕ) → place_code p s q h pc ≡ steps_code p s (steps_in q) h pc
-code_place p s (local site steps) h pc = refl
-code_place p s (global g steps) h pc = refl
-
-pub fits_place : (p : Program) (s : Slots) (n h : ℕ) (q : Pl) → OperandsFit p s n h q → StepsFitIn p s n h (steps_in q)
-fits_place p s n h (local site steps) f = f
-fits_place p s n h (global g steps) f = f
-
--- and some after them
+-- the operands of a place, and some after them
 pub place_total : (p : Program) (q : Place) (behind : ℕ) → place_size p (place_of q) behind ≡ place_size p (place_of q) 0 + behind
 place_total p q behind = place_sum p (place_of q) behind

@@ -1,4 +1,4 @@
--- That the slots of a frame suffice for expressions and places.
+-- That the slots of a frame suffice for expressions and places, which are none of those that no program in form has.
 use Rattle.std.specs.Prelude.{◌≡◌, ℕ, ◌+◌, ◌<◌, ◌≤◌, Bool, true, false, length}
 use Rattle.typed_syntax.specs.Types.{TypeTree, width, part_type, part_offset}
 use Rattle.typed_syntax.specs.Paths.{offset}
@@ -9,11 +9,6 @@ use Rattle.program_code.specs.Code.{Slots, site_type, site_words, part_words, pl
 -- the site is among the n of a frame, and its variables live there
 abbrev pub SiteFits : Slots → (n site : ℕ) → Type 0
 SiteFits s n site = (s.first ≤ site) × (site < s.first + n) × (s.placement.on_heap site ≡ false)
-
--- the steps of a place
-abbrev pub steps_in : Pl → Steps
-steps_in (local site steps) = steps
-steps_in (global g steps) = steps
 
 -- the arrays with worked-out indices among the steps from values of a type have elements, no more than they have words
 abbrev pub IndicesFit : TypeTree → Steps → Type 0
@@ -27,11 +22,13 @@ PlaceFits s n (local site steps) =
     SiteFits s n site × (0 < part_words s site (path_of steps)) × (offset (site_type s site) (path_of steps) + part_words s site (path_of steps) ≤ site_words s site) × IndicesFit (site_type s site) steps
 PlaceFits s n (global g steps) =
     (g < length s.globals) × (0 < global_words s g steps) × (global_offset s g steps + global_words s g steps ≤ width (global_type s g)) × IndicesFit (global_type s g) steps
+PlaceFits s n q = ⊥
 
 -- the words of a place
 abbrev pub reached : Slots → Pl → ℕ
 reached s (local site steps) = part_words s site (path_of steps)
 reached s (global g steps) = global_words s g steps
+reached s q = 0
 
 -- there is a temp for the address of a place, if it has one
 abbrev pub AddressFits : (temps at : ℕ) → Pl → Type 0
@@ -58,11 +55,13 @@ module _ (p : Program) (s : Slots) (n : ℕ) where
     Fits h (literal m es) =
         let t = type_named p m in
         (0 < width t) × (h + width t ≤ s.temps) × ElementsFitIn h t (ascend es) es
+    Fits h e = ⊥
 
     -- the operands of a place, in temps from h on
     pub OperandsFit : (h : ℕ) → Pl → Type 0
     OperandsFit h (local site steps) = StepsFitIn h steps
     OperandsFit h (global g steps) = StepsFitIn h steps
+    OperandsFit h q = ⊥
 
     pub StepsFitIn : (h : ℕ) → Steps → Type 0
     StepsFitIn h here = Unit {0}

@@ -97,6 +97,20 @@ pub fn expr_len(program: &Program, e: &Expr) -> Result<u32, NoMemory>
             let n = elements_len(program, *id, ascends(es), es)?;
             plus(1, n)
         }
+        // These have no code yet.
+        Expr::Nil(..)
+        | Expr::AddressOf(..)
+        | Expr::New(..)
+        | Expr::NewLiteral(..)
+        | Expr::SliceLiteral(..)
+        | Expr::Make(..)
+        | Expr::Append(..)
+        | Expr::AppendSlice(..)
+        | Expr::Copy(..)
+        | Expr::Slicing(..)
+        | Expr::ArraySlicing(..)
+        | Expr::Len(..)
+        | Expr::Cap(..) => Ok(0),
     }
 }
 
@@ -109,6 +123,7 @@ pub fn place_len(program: &Program, place: &Place) -> Result<u32, NoMemory>
     match place {
         Place::Local(_, steps) => steps_len(program, steps),
         Place::Global(_, steps) => steps_len(program, steps),
+        Place::Indirect(..) | Place::SliceElement(..) => Ok(0),
     }
 }
 

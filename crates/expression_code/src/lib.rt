@@ -23,7 +23,7 @@ mod widths;
 
 pub use jumps::{Goals, here, jump, pass_unless, put};
 pub use lengths::{expr_len, last_len, move_len, number, place_len, plus, test_len, values_len};
-pub use moving::{moves, zeros};
+pub use moving::{silent, zeros};
 pub use reaching::{
     above_address, above_operands, address_len, emit_address, emit_fetch, emit_land, emit_write,
 };

@@ -5,10 +5,12 @@ ghost use Rattle.typed_syntax.specs.Types.{width, part_offset, part_type};
 ghost use Rattle.typed_syntax.specs.Syntax.{ascend, gap_behind as gap_in, type_named, words_through as through_part};
 ghost use Rattle.typed.specs.View.{elements_of, program_of};
 ghost use Rattle.expression_code.specs.Frame.{slots_in, IsLaid};
-ghost use Rattle.program_code.specs.Code.{gap_code, gap_size, moves as moves_of, temp};
+ghost use Rattle.isa.specs.declared.instr.Instr.{Instr};
+ghost use Rattle.isa.specs.declared.instr.MoveEvent.{MoveEvent};
+ghost use Rattle.program_code.specs.Code.{gap_code, gap_size, temp};
 
 use crate::jumps::put;
-use crate::moving::{moves, zeros};
+use crate::moving::{silent, zeros};
 use crate::slots::Frame;
 use base::{NoMemory, TypeId};
 use isa::Instr;
@@ -94,13 +96,13 @@ pub fn moved(program: &Program, frame: &Frame, id: TypeId, number: u32, from: u1
         (part_type (type_named (program_of program.now) id.0) number) ≤ frame.now.temps }
     requires from { from ≤ frame.now.temps }
     requires frame { IsLaid program.now frame.now }
-    ensures { result ≡ moves_of (width (part_type (type_named (program_of program.now) id.0) number))
+    ensures { result ≡ Instr.Move MoveEvent.Silent
         (temp (slots_in program.now frame.now) (h + part_offset (type_named (program_of program.now) id.0) number))
-        (temp (slots_in program.now frame.now) from) }
+        (temp (slots_in program.now frame.now) from) (width (part_type (type_named (program_of program.now) id.0) number)) }
 {
     let n = program.types.width(program.types.part(id, number)) as u16;
     let to = h + program.types.part_offset(id, number) as u16;
-    moves(n, frame.temp(to), frame.temp(from))
+    silent(n, frame.temp(to), frame.temp(from))
 }
 
 /// A part of a value of a type in temps from h on goes to these temps.
@@ -108,11 +110,11 @@ pub fn taken(program: &Program, frame: &Frame, id: TypeId, number: u32, h: u16) 
     requires place { h + part_offset (type_named (program_of program.now) id.0) number + width
         (part_type (type_named (program_of program.now) id.0) number) ≤ frame.now.temps }
     requires frame { IsLaid program.now frame.now }
-    ensures { result ≡ moves_of (width (part_type (type_named (program_of program.now) id.0) number))
-        (temp (slots_in program.now frame.now) h)
-        (temp (slots_in program.now frame.now) (h + part_offset (type_named (program_of program.now) id.0) number)) }
+    ensures { result ≡ Instr.Move MoveEvent.Silent (temp (slots_in program.now frame.now) h)
+        (temp (slots_in program.now frame.now) (h + part_offset (type_named (program_of program.now) id.0) number))
+        (width (part_type (type_named (program_of program.now) id.0) number)) }
 {
     let n = program.types.width(program.types.part(id, number)) as u16;
     let from = h + program.types.part_offset(id, number) as u16;
-    moves(n, frame.temp(h), frame.temp(from))
+    silent(n, frame.temp(h), frame.temp(from))
 }

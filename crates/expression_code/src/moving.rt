@@ -1,21 +1,19 @@
-//! Words that go from slots to slots, and slots that get zeros.
+//! Words that go from slots to slots and tell nothing, and slots that get zeros.
 ghost use Rattle.std.specs.Prelude.{◌≡◌, ◌++◌, OnOk};
-ghost use Rattle.program_code.specs.Code.{move_code, moves as moves_of, zeros as zeros_of};
+ghost use Rattle.isa.specs.declared.instr.Instr.{Instr};
+ghost use Rattle.isa.specs.declared.instr.MoveEvent.{MoveEvent};
+ghost use Rattle.program_code.specs.Code.{move_code, zeros as zeros_of};
 
 use crate::jumps::put;
 use base::NoMemory;
-use isa::Instr;
+use isa::{Instr, MoveEvent};
 
-/// Some words go from slots from b on to slots from a on.
-#[tactic(auto, using(crate::proofs::InSlots::moves_many))]
-pub fn moves(n: u16, a: u16, b: u16) -> Instr
-    ensures { result ≡ moves_of n a b }
+/// The n slots from a on get the words of those from b on.
+pub fn silent(n: u16, a: u16, b: u16) -> Instr
+    ensures { result ≡ Instr.Move MoveEvent.Silent a b n }
 {
-    if n == 1 {
-        Instr::Move { a, b }
-    } else {
-        Instr::MoveWords { a, b, n }
-    }
+    let event = MoveEvent::Silent;
+    Instr::Move { event, a, b, n }
 }
 
 /// Slots from a on get zeros.
@@ -35,7 +33,7 @@ pub fn emit_move(code: &mut Vec<Instr>, n: u16, a: u16, b: u16) -> Result<(), No
     ensures { OnOk result (code.new.items ≡ code.old.items ++ move_code n a b) }
 {
     if n > 0 {
-        put(code, Instr::MoveWords { a, b, n })?;
+        put(code, silent(n, a, b))?;
     }
     Ok(())
 }

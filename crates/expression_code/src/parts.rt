@@ -4,27 +4,16 @@ ghost use Rattle.typed_syntax.specs.Types.{ints, width};
 ghost use Rattle.typed_syntax.specs.Paths.{offset as offset_at, type_at};
 ghost use Rattle.typed_syntax.specs.Syntax.{local, path_of, site_type as type_of_site, type_named};
 ghost use Rattle.frames.specs.Frames.{steps_far};
-ghost use Rattle.typed.specs.View.{place_of, program_of, steps_of as these_steps};
+ghost use Rattle.typed.specs.View.{program_of, steps_of as these_steps};
 ghost use Rattle.expression_code.specs.Frame.{globals_in, sites_in, slots_in, IsLaid};
 ghost use Rattle.expression_code.specs.Parts.{part_number as number_of};
-ghost use Rattle.expression_code.specs.Temps.{steps_in, PlaceFits};
+ghost use Rattle.expression_code.specs.Temps.{PlaceFits};
 ghost use Rattle.program_code.specs.Code.{far_offset as offset_behind, part_slot as slot_of_part, part_words as words_of_part, site_type as type_in_slots, steps_above};
 
 use crate::slots::Frame;
 use base::{SiteId, TypeId};
 use frame_layout::site_of_global;
-use typed::{Place, Program, Step};
-
-/// The steps of a place.
-#[tactic(auto, using(typed::proofs::Rows::expr_rows))]
-pub fn steps_of(place: &Place) -> &[Step]
-    ensures { steps_in (place_of place.now) ≡ these_steps result.now }
-{
-    match place {
-        Place::Local(_, steps) => steps,
-        Place::Global(_, steps) => steps,
-    }
-}
+use typed::{Program, Step};
 
 /// The number of the part that a step leads to; an index that is worked out counts as the first.
 pub fn part_number(step: &Step) -> u32

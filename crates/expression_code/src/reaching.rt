@@ -13,14 +13,14 @@ ghost use Rattle.program_code.specs.Code.{above_address as above_address_of, add
 
 use crate::jumps::put;
 use crate::lengths::plus;
-use crate::moving::moves;
+use crate::moving::zeros;
 use crate::parts::{
     above_steps, behind_address, end_words, global_type, is_far, near_offset, part_number,
-    part_slot, part_words, site_type, steps_of,
+    part_slot, part_words, site_type,
 };
 use crate::slots::Frame;
 use base::{NoMemory, SiteId, TypeId};
-use isa::Instr;
+use isa::{Instr, MoveEvent, StoreEvent};
 use typed::{Place, Program, Step};
 
 // So many of the steps are indices.
@@ -47,6 +47,7 @@ pub fn address_len(place: &Place) -> Result<u32, NoMemory>
             if count == 0 { Ok(0) } else { plus(count, 1) }
         }
         Place::Global(_, steps) => plus(1, index_count(steps)?),
+        Place::Indirect(..) | Place::SliceElement(..) => Ok(0),
     }
 }
 
@@ -57,17 +58,22 @@ fn has_address(place: &Place) -> bool
 {
     match place {
         Place::Local(_, steps) => is_far(steps),
-        Place::Global(_, _) => true,
+        Place::Indirect(_, _, _, steps) => is_far(steps),
+        Place::Global(..) | Place::SliceElement(..) => true,
     }
 }
 
 /// The temp above the operands of a place, which are in temps from h on.
-#[tactic(auto, using(crate::proofs::Steps::above_place))]
+#[tactic(auto, using(typed::proofs::Rows::expr_rows))]
 pub fn above_operands(place: &Place, h: u16) -> u16
     requires { above_operands (place_of place.now) h ≤ 65535 }
     ensures { result ≡ above_operands (place_of place.now) h }
 {
-    above_steps(steps_of(place), h)
+    match place {
+        Place::Local(_, steps) => above_steps(steps, h),
+        Place::Global(_, steps) => above_steps(steps, h),
+        Place::Indirect(..) | Place::SliceElement(..) => h,
+    }
 }
 
 /// The temp above the address of a place in temp `at`, if there is one.
@@ -184,6 +190,7 @@ pub fn emit_address(
             let id = global_type(program, *number);
             emit_indices(code, program, frame, id, steps, first, at)
         }
+        Place::Indirect(..) | Place::SliceElement(..) => Ok(()),
     }
 }
 
@@ -209,7 +216,8 @@ fn fetch_part(
         let b = frame.temp(at);
         return Instr::Load { a, b, off, n };
     }
-    moves(n, a, part_slot(program, frame, site, steps))
+    let (event, b) = (MoveEvent::Read, part_slot(program, frame, site, steps));
+    Instr::Move { event, a, b, n }
 }
 
 // A part of a variable gets the words of temps from h on.
@@ -232,9 +240,17 @@ fn land_part(
     if is_far(steps) {
         let off = behind_address(program, frame, site, steps);
         let a = frame.temp(at);
-        return Instr::Store { a, off, c, n };
+        let event = StoreEvent::Write;
+        return Instr::Store {
+            event,
+            a,
+            off,
+            c,
+            n,
+        };
     }
-    moves(n, part_slot(program, frame, site, steps), c)
+    let (event, a) = (MoveEvent::Write, part_slot(program, frame, site, steps));
+    Instr::Move { event, a, b: c, n }
 }
 
 // The words of a part of a package variable go to temps from h on; the address of the whole, which counts the indices, is in temp `at`.
@@ -281,8 +297,14 @@ fn land_global(
         near_offset(program, id, steps),
         end_words(program, id, steps),
     );
-    let (a, c) = (frame.temp(at), frame.temp(h));
-    Instr::Store { a, off, c, n }
+    let (event, a, c) = (StoreEvent::Write, frame.temp(at), frame.temp(h));
+    Instr::Store {
+        event,
+        a,
+        off,
+        c,
+        n,
+    }
 }
 
 /// The words of a place go to temps from h on; its address, if there is one, is in temp `at`.
@@ -307,6 +329,7 @@ pub fn emit_fetch(
         Place::Global(number, steps) => {
             put(code, fetch_global(program, frame, *number, steps, at, h))
         }
+        Place::Indirect(..) | Place::SliceElement(..) => put(code, zeros(0, frame.temp(h))),
     }
 }
 
@@ -332,6 +355,7 @@ pub fn emit_land(
         Place::Global(number, steps) => {
             put(code, land_global(program, frame, *number, steps, at, h))
         }
+        Place::Indirect(..) | Place::SliceElement(..) => put(code, zeros(0, frame.temp(h))),
     }
 }
 

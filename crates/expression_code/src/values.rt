@@ -11,12 +11,12 @@ ghost use Rattle.program_code.specs.Code.{binary_code as code_of_binary, call_co
 use crate::jumps::{jump, jump_if_zero, put};
 use crate::lengths::expr_len;
 use crate::literals::{ascends, emit_gap, moved, taken};
-use crate::moving::{emit_move, zeros};
+use crate::moving::{emit_move, silent, zeros};
 use crate::reaching::{above_operands, emit_read};
 use crate::slots::Frame;
 use base::{FuncId, NoMemory, TypeId};
 use frame_layout::{arguments_of, expr_words, results_of};
-use isa::Instr;
+use isa::{Instr, Sameness};
 use typed::{BinOp, Const, Element, Expr, Place, Program, Step, UnOp, Values};
 
 /// The instruction's operation.
@@ -59,7 +59,7 @@ fn unary(op: UnOp, a: u16) -> Instr
     ensures { result ≡ unary_code op a }
 {
     match op {
-        UnOp::Plus => Instr::Move { a, b: a },
+        UnOp::Plus => silent(1, a, a),
         UnOp::Negate => Instr::Un {
             op: isa::UnOp::Negate,
             a,
@@ -95,7 +95,7 @@ fn emit_call(
     let results = results_of(program, f)? as u16;
     let first = frame.temp(h);
     emit_move(code, arguments, 0, first)?;
-    put(code, Instr::Call { func: f.0 as u16 })?;
+    put(code, Instr::Call { func: f.0 })?;
     emit_move(code, results, first, arguments)?;
     Ok(())
 }
@@ -140,6 +140,19 @@ fn pass_either(
     Ok(())
 }
 
+// Whether n words from slot a on are those from slot c on goes to slot a, as it is wanted.
+fn same(wanted: Sameness, n: u16, a: u16, c: u16) -> Instr
+    ensures { result ≡ Instr.Same wanted a a c n }
+{
+    Instr::Same {
+        wanted,
+        a,
+        b: a,
+        c,
+        n,
+    }
+}
+
 // An operator on operands of n words, from slots a and c on; what it gives goes to slot a. Values of one word are compared
 // as words are.
 #[tactic(auto, using(crate::proofs::Operators::binary_one, crate::proofs::Operators::same_many, crate::proofs::Operators::differ_many, crate::proofs::Operators::other_word))]
@@ -156,8 +169,8 @@ fn binary(op: BinOp, n: u16, a: u16, c: u16) -> Instr
         return word;
     }
     match op {
-        BinOp::Equal => Instr::Same { a, b: a, c, n },
-        BinOp::NotEqual => Instr::Differ { a, b: a, c, n },
+        BinOp::Equal => same(Sameness::Equal, n, a, c),
+        BinOp::NotEqual => same(Sameness::Different, n, a, c),
         _ => word,
     }
 }
@@ -268,6 +281,20 @@ pub fn emit_expr(
                 emit_moved(code, program, frame, *id, es, h)?;
             }
         }
+        // These have no code yet.
+        Expr::Nil(..)
+        | Expr::AddressOf(..)
+        | Expr::New(..)
+        | Expr::NewLiteral(..)
+        | Expr::SliceLiteral(..)
+        | Expr::Make(..)
+        | Expr::Append(..)
+        | Expr::AppendSlice(..)
+        | Expr::Copy(..)
+        | Expr::Slicing(..)
+        | Expr::ArraySlicing(..)
+        | Expr::Len(..)
+        | Expr::Cap(..) => {}
     }
     Ok(())
 }
@@ -290,6 +317,7 @@ pub fn emit_place(
     match place {
         Place::Local(_, steps) => emit_steps(code, program, frame, steps, h)?,
         Place::Global(_, steps) => emit_steps(code, program, frame, steps, h)?,
+        Place::Indirect(..) | Place::SliceElement(..) => {}
     }
     Ok(())
 }

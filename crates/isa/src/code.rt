@@ -10,7 +10,7 @@ use std::marker::Model;
 #[derive(Drop)]
 pub struct Code {
     instrs: Vec<Instr>,
-    owners: Vec<u16>,
+    owners: Vec<u32>,
     funcs: Vec<Func>,
     strings: Vec<Vec<u8>>,
 }
@@ -30,7 +30,7 @@ impl Code {
     /// The code of tables that are one.
     pub fn made(
         instrs: Vec<Instr>,
-        owners: Vec<u16>,
+        owners: Vec<u32>,
         funcs: Vec<Func>,
         strings: Vec<Vec<u8>>,
     ) -> Code
@@ -56,7 +56,7 @@ impl Code {
 
     /// The number of each place's function.
     #[inline(always)]
-    pub fn owners(&self) -> &[u16]
+    pub fn owners(&self) -> &[u32]
         ensures { result.now ≡ self.now.owners }
     {
         &self.owners

@@ -41,6 +41,38 @@ pub enum BinFault {
     ShiftCount(i64),
 }
 
+/// What a move tells of a run. The machine does the same for each.
+#[derive(Clone, Copy, Debug, PartialEq, Eq)]
+pub enum MoveEvent {
+    Silent,
+    /// A variable is read at b.
+    Read,
+    /// A variable is written at a.
+    Write,
+}
+
+/// What a store tells of a run. The machine does the same for each.
+#[derive(Clone, Copy, Debug, PartialEq, Eq)]
+pub enum StoreEvent {
+    Silent,
+    /// A variable is written.
+    Write,
+}
+
+/// Which answer two lists of words are to give.
+#[derive(Clone, Copy, Debug, PartialEq, Eq)]
+pub enum Sameness {
+    Equal,
+    Different,
+}
+
+/// Where words go between slots and incoming words.
+#[derive(Clone, Copy, Debug, PartialEq, Eq)]
+pub enum Direction {
+    ToSlots,
+    FromSlots,
+}
+
 /// What an append puts behind a slice's elements.
 #[derive(Clone, Copy, Debug, PartialEq, Eq)]
 pub enum Added {
@@ -69,26 +101,16 @@ pub enum Instr {
         a: u16,
         n: u16,
     },
-    /// The slot a gets the word of b.
-    Move {
-        a: u16,
-        b: u16,
-    },
     /// The n slots from a on get the words of the slots from b on, as through a copy.
-    MoveWords {
+    Move {
+        event: MoveEvent,
         a: u16,
         b: u16,
         n: u16,
     },
-    /// The slot a gets 1 where the n slots from b on have the words of those from c on, else 0.
+    /// The slot a gets 1 where the n slots from b on have the words of those from c on, as it is wanted, or have others; else 0.
     Same {
-        a: u16,
-        b: u16,
-        c: u16,
-        n: u16,
-    },
-    /// The slot a gets 0 where the n slots from b on have the words of those from c on, else 1.
-    Differ {
+        wanted: Sameness,
         a: u16,
         b: u16,
         c: u16,
@@ -118,21 +140,11 @@ pub enum Instr {
     },
     /// Calls a function. Its arguments stand in the lowest slots, and after them it leaves its results.
     Call {
-        func: u16,
+        func: u32,
     },
-    /// The slot a gets the incoming word b.
-    Argument {
-        a: u16,
-        b: u16,
-    },
-    /// The n slots from a on get the incoming words from b on.
-    ArgumentWords {
-        a: u16,
-        b: u16,
-        n: u16,
-    },
-    /// The n incoming words from b on get the words of the slots from a on.
-    SetResults {
+    /// The n slots from a on get the incoming words from b on, or these get the words of the slots.
+    Incoming {
+        direction: Direction,
         a: u16,
         b: u16,
         n: u16,
@@ -148,6 +160,7 @@ pub enum Instr {
     /// The n words from the address on that lies off after the word of a get the n words of the slots from c on, as through
     /// a copy. Where the word of a is 0, the program panics.
     Store {
+        event: StoreEvent,
         a: u16,
         off: u16,
         c: u16,

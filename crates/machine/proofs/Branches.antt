@@ -1,19 +1,22 @@
 -- Instructions on slices go on by one branch of their definition.
-use Rattle.std.proofs.Common.{◌≡◌, ℕ, ◌+◌, ◌-◌, ◌*◌, ◌<◌, ◌≤◌, Bool, true, false, List, [], ◌++◌, length, take, drop, Option, Some, None, refl, ap, sym, ◌∙◌, arith}
-use Rattle.std.specs.Prelude.{◌==◌, ◌&&◌, if◌then◌else◌, nat_le, slice_get}
+use Rattle.std.proofs.Common.{◌≡◌, ℕ, ◌+◌, ◌-◌, ◌*◌, ◌<◌, ◌≤◌, Bool, true, false, List, [], length, take, drop, Option, Some, refl, ap, sym, ◌∙◌, arith}
+use Rattle.std.specs.Prelude.{◌==◌, if◌then◌else◌, nat_le, slice_get}
 use Rattle.std.proofs.lemmas.Bool.{le-leb, lt-leb}
 use Rattle.std.proofs.lemmas.List.{drop-take, take-take}
 use Rattle.std.proofs.Math.Nat.{mul-le-mul_right}
 use Rattle.simulation.specs.Steps.{Goes}
 use Rattle.heap_bump.specs.Words.{Words, first_address}
 use Rattle.isa.specs.declared.instr.Added.{Added}
-use Rattle.isa.specs.declared.instr.Added.TheVariants.{Slots, Slice as OfSlice}
+use Rattle.isa.specs.declared.instr.Added.TheVariants.{Slice as OfSlice}
 use Rattle.isa.specs.Code.{Tables}
 use Rattle.isa.specs.declared.instr.BinOp.{BinOp}
+use Rattle.isa.specs.declared.instr.Direction.{Direction}
+use Rattle.isa.specs.declared.instr.MoveEvent.{MoveEvent}
+use Rattle.isa.specs.declared.instr.StoreEvent.{StoreEvent}
 use Rattle.isa.specs.declared.instr.Instr.{Instr}
-use Rattle.isa.specs.declared.instr.Instr.TheVariants.{Const, Move, MoveWords, Bin, Jump, JumpZero, Call, ArgumentWords, SetResults, Load, Store, Return, Alloc, Make, Append}
+use Rattle.isa.specs.declared.instr.Instr.TheVariants.{Const, Move, Bin, Jump, JumpZero, Call, Incoming, Load, Store, Return, Born, Alloc, Make, Append}
 use Rattle.isa.specs.declared.func.Func.{Func}
-use Rattle.machine.specs.Machine.{Range, State, Does, frame_in, frame_of, slot, spot_of, put_words, words_at, words_in, put_at, header, is_nowhere, most_elements, are_sizes, allocates, makes, grown, renews, adds_in_place, adds_in_new, adds, appends_slots, appends_slice, appends_to, appends, copies, lesser, puts_words, next_address}
+use Rattle.machine.specs.Machine.{Range, State, Does, frame_in, frame_of, slot, spot_of, put_words, words_in, put_at, header, is_nowhere, most_elements, are_sizes, allocates, makes, grown, renews, adds_in_place, adds_in_new, adds, appends_slots, appends_slice, appends_to, appends, copies, lesser, puts_words, next_address}
 use Rattle.machine.specs.Inside.{HasRoom, IsRare}
 use Rattle.machine.specs.Answers.{Comes, NeedsMemory, NoRoom}
 use Rattle.machine.specs.declared.run_state.RunState.{RunState}
@@ -120,19 +123,18 @@ pub append_room : (t : Tables) (at : RunState) (added : Added) (a b c d w site :
 append_room t at added a b c d w site is f call = absurd (let both : Some (Append added a b c d w site) ≡ Some (Call f) = sym is ∙ call in cc)
 
 -- what is none of the frequent instructions is a rare one
-pub seldom : (i : Instr) → ((a word : ℕ) → i ≡ Const a word → ⊥) → ((a b : ℕ) → i ≡ Move a b → ⊥) → ((a b n : ℕ) → i ≡ MoveWords a b n → ⊥) → ((op : BinOp) (a b c : ℕ) → i ≡ Bin op a b c → ⊥)
-    → ((to : ℕ) → i ≡ Jump to → ⊥) → ((a to : ℕ) → i ≡ JumpZero a to → ⊥) → ((g : ℕ) → i ≡ Call g → ⊥) → ((a b n : ℕ) → i ≡ ArgumentWords a b n → ⊥) → ((a b n : ℕ) → i ≡ SetResults a b n → ⊥)
-    → ((a b off n : ℕ) → i ≡ Load a b off n → ⊥) → ((a off c n : ℕ) → i ≡ Store a off c n → ⊥) → (i ≡ Return → ⊥) → IsRare i
-seldom (Const a word) n1 n2 n3 n4 n5 n6 n7 n8 n9 n10 n11 n12 = n1 a word refl
-seldom (Move a b) n1 n2 n3 n4 n5 n6 n7 n8 n9 n10 n11 n12 = n2 a b refl
-seldom (MoveWords a b n) n1 n2 n3 n4 n5 n6 n7 n8 n9 n10 n11 n12 = n3 a b n refl
-seldom (Bin op a b c) n1 n2 n3 n4 n5 n6 n7 n8 n9 n10 n11 n12 = n4 op a b c refl
-seldom (Jump to) n1 n2 n3 n4 n5 n6 n7 n8 n9 n10 n11 n12 = n5 to refl
-seldom (JumpZero a to) n1 n2 n3 n4 n5 n6 n7 n8 n9 n10 n11 n12 = n6 a to refl
-seldom (Call g) n1 n2 n3 n4 n5 n6 n7 n8 n9 n10 n11 n12 = n7 g refl
-seldom (ArgumentWords a b n) n1 n2 n3 n4 n5 n6 n7 n8 n9 n10 n11 n12 = n8 a b n refl
-seldom (SetResults a b n) n1 n2 n3 n4 n5 n6 n7 n8 n9 n10 n11 n12 = n9 a b n refl
-seldom (Load a b off n) n1 n2 n3 n4 n5 n6 n7 n8 n9 n10 n11 n12 = n10 a b off n refl
-seldom (Store a off c n) n1 n2 n3 n4 n5 n6 n7 n8 n9 n10 n11 n12 = n11 a off c n refl
-seldom Return n1 n2 n3 n4 n5 n6 n7 n8 n9 n10 n11 n12 = n12 refl
-seldom i n1 n2 n3 n4 n5 n6 n7 n8 n9 n10 n11 n12 = tt
+pub seldom : (i : Instr) → ((a word : ℕ) → i ≡ Const a word → ⊥) → ((event : MoveEvent) (a b n : ℕ) → i ≡ Move event a b n → ⊥) → ((op : BinOp) (a b c : ℕ) → i ≡ Bin op a b c → ⊥)
+    → ((to : ℕ) → i ≡ Jump to → ⊥) → ((a to : ℕ) → i ≡ JumpZero a to → ⊥) → ((g : ℕ) → i ≡ Call g → ⊥) → ((direction : Direction) (a b n : ℕ) → i ≡ Incoming direction a b n → ⊥)
+    → ((a b off n : ℕ) → i ≡ Load a b off n → ⊥) → ((event : StoreEvent) (a off c n : ℕ) → i ≡ Store event a off c n → ⊥) → ((a n site : ℕ) → i ≡ Born a n site → ⊥) → (i ≡ Return → ⊥) → IsRare i
+seldom (Const a word) n1 n2 n3 n4 n5 n6 n7 n8 n9 n10 n11 = n1 a word refl
+seldom (Move event a b n) n1 n2 n3 n4 n5 n6 n7 n8 n9 n10 n11 = n2 event a b n refl
+seldom (Bin op a b c) n1 n2 n3 n4 n5 n6 n7 n8 n9 n10 n11 = n3 op a b c refl
+seldom (Jump to) n1 n2 n3 n4 n5 n6 n7 n8 n9 n10 n11 = n4 to refl
+seldom (JumpZero a to) n1 n2 n3 n4 n5 n6 n7 n8 n9 n10 n11 = n5 a to refl
+seldom (Call g) n1 n2 n3 n4 n5 n6 n7 n8 n9 n10 n11 = n6 g refl
+seldom (Incoming direction a b n) n1 n2 n3 n4 n5 n6 n7 n8 n9 n10 n11 = n7 direction a b n refl
+seldom (Load a b off n) n1 n2 n3 n4 n5 n6 n7 n8 n9 n10 n11 = n8 a b off n refl
+seldom (Store event a off c n) n1 n2 n3 n4 n5 n6 n7 n8 n9 n10 n11 = n9 event a off c n refl
+seldom (Born a n site) n1 n2 n3 n4 n5 n6 n7 n8 n9 n10 n11 = n10 a n site refl
+seldom Return n1 n2 n3 n4 n5 n6 n7 n8 n9 n10 n11 = n11 refl
+seldom i n1 n2 n3 n4 n5 n6 n7 n8 n9 n10 n11 = tt

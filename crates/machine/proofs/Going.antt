@@ -11,7 +11,7 @@ use Rattle.isa.specs.Code.{Tables, IsCode}
 use Rattle.isa.specs.declared.instr.Added.{Added}
 use Rattle.isa.specs.declared.instr.Added.TheVariants.{Slots, Slice as OfSlice}
 use Rattle.isa.specs.declared.instr.Instr.{Instr}
-use Rattle.isa.specs.declared.instr.Instr.TheVariants.{Const, Zero, Move, MoveWords, Same, Differ, Bin, Un, Jump, JumpZero, Call, Argument, ArgumentWords, SetResults, Load, Store, Address, Offset, Index, SliceIndex, Slice, Born, Alloc, Make, Append, Copy, PrintInt, PrintBool, PrintText, PrintSpace, PrintLine, ReadInt, Return, Exit as ExitWith, PanicText, PanicInt, PanicBool}
+use Rattle.isa.specs.declared.instr.Instr.TheVariants.{Const, Zero, Move, Same, Bin, Un, Jump, JumpZero, Call, Incoming, Load, Store, Address, Offset, Index, SliceIndex, Slice, Born, Alloc, Make, Append, Copy, PrintInt, PrintBool, PrintText, PrintSpace, PrintLine, ReadInt, Return, Exit as ExitWith, PanicText, PanicInt, PanicBool}
 use Rattle.isa.specs.declared.func.Func.{Func}
 use Rattle.machine.specs.Machine.{Last, State, Does, full_range, last_of, stops, Event, Printed, Asked, Item, bytes_of, asks_in, act, act_on, calls, entered, address_of, zeroed, frame_of, owner_of, slot, puts, spot_of, is_nowhere, next_address, most_elements, taken, takes, touches, allocates, makes, element, header, grown, adds_in_place, adds_in_new, moves_old, adds, appends, appends_to, are_sizes, words_in, put_at, puts_words}
 use Rattle.machine.specs.declared.memory.Spot.{Spot}
@@ -321,19 +321,15 @@ needy_events t max items s (Make a w site) needs = makes_nothing s a (slot s (a 
 needy_events t max items s (Append added a b c d w site) needs = appends_nothing s added a b c d w
 needy_events t max items s (Const a word) needs = absurd needs
 needy_events t max items s (Zero a n) needs = absurd needs
-needy_events t max items s (Move a b) needs = absurd needs
-needy_events t max items s (MoveWords a b n) needs = absurd needs
-needy_events t max items s (Same a b c n) needs = absurd needs
-needy_events t max items s (Differ a b c n) needs = absurd needs
+needy_events t max items s (Move event a b n) needs = absurd needs
+needy_events t max items s (Same wanted a b c n) needs = absurd needs
 needy_events t max items s (Bin op a b c) needs = absurd needs
 needy_events t max items s (Un op a b) needs = absurd needs
 needy_events t max items s (Jump to) needs = absurd needs
 needy_events t max items s (JumpZero a to) needs = absurd needs
-needy_events t max items s (Argument a b) needs = absurd needs
-needy_events t max items s (ArgumentWords a b n) needs = absurd needs
-needy_events t max items s (SetResults a b n) needs = absurd needs
+needy_events t max items s (Incoming direction a b n) needs = absurd needs
 needy_events t max items s (Load a b off n) needs = absurd needs
-needy_events t max items s (Store a off c n) needs = absurd needs
+needy_events t max items s (Store event a off c n) needs = absurd needs
 needy_events t max items s (Address a b) needs = absurd needs
 needy_events t max items s (Offset a b off) needs = absurd needs
 needy_events t max items s (Index a b c len w) needs = absurd needs

@@ -45,6 +45,12 @@ copied_one words from to inside room =
     ∙ set_at (take to words) (get_or words to 0) (drop (to + 1) words) (get_or words from 0) to (length-take-le to words (omega (arith, room)))
     ∙ ap (put_words words to) (sym one)
 
+-- one zero
+pub cleared_one : (words : List ℕ) (a : ℕ) → a < length words → slice_set words a 0 ≡ zeroed words a 1
+cleared_one words a room =
+    let apart : words ≡ take a words ++ (get_or words a 0 ∷ drop (a + 1) words) = sym (take-append-drop a words) ∙ ap (λ l. take a words ++ l) (drop_more words a 0 room) in
+    ap (λ l. slice_set l a 0) apart ∙ set_at (take a words) (get_or words a 0) (drop (a + 1) words) 0 a (length-take-le a words (omega (arith, room)))
+
 -- zeros after an index, seen from the index
 pub cleared : (words : List ℕ) (base from count : ℕ) → base + from + count ≤ length words
     → drop base (take (base + from) words ++ replicate count 0 ++ drop (base + from + count) words) ≡ zeroed (drop base words) from count

@@ -5,7 +5,7 @@ use Rattle.isa.specs.Code.{Tables}
 use Rattle.isa.specs.declared.instr.Added.{Added}
 use Rattle.isa.specs.declared.instr.Added.TheVariants.{Slots, Slice as OfSlice}
 use Rattle.isa.specs.declared.instr.Instr.{Instr}
-use Rattle.isa.specs.declared.instr.Instr.TheVariants.{Const, Zero, Move, MoveWords, Same, Differ, Bin, Un, Jump, JumpZero, Call, Argument, ArgumentWords, SetResults, Load, Store, Address, Offset, Index, SliceIndex, Slice, Born, Alloc, Make, Append, Copy, PrintInt, PrintBool, PrintText, ReadInt, Return, Exit, PanicText, PanicInt, PanicBool}
+use Rattle.isa.specs.declared.instr.Instr.TheVariants.{Const, Zero, Move, Same, Bin, Un, Jump, JumpZero, Call, Incoming, Load, Store, Address, Offset, Index, SliceIndex, Slice, Born, Alloc, Make, Append, Copy, PrintInt, PrintBool, PrintText, ReadInt, Return, Exit, PanicText, PanicInt, PanicBool}
 use Rattle.isa.specs.declared.func.Func.{Func}
 use Rattle.machine.specs.declared.memory.Spot.{Spot}
 use Rattle.machine.specs.declared.memory.Spot.TheVariants.{InHeap, InStack, Nowhere}
@@ -47,19 +47,15 @@ AddedInside long base OfSlice c d w = base + (c + 3) ≤ long
 abbrev pub Touches : Tables → ℕ → ℕ → Instr → Type 0
 Touches t long base (Const a word) = base + a < long
 Touches t long base (Zero a n) = base + (a + n) ≤ long
-Touches t long base (Move a b) = (base + a < long) × (base + b < long)
-Touches t long base (MoveWords a b n) = (base + (a + n) ≤ long) × (base + (b + n) ≤ long)
-Touches t long base (Same a b c n) = (base + a < long) × (base + (b + n) ≤ long) × (base + (c + n) ≤ long)
-Touches t long base (Differ a b c n) = (base + a < long) × (base + (b + n) ≤ long) × (base + (c + n) ≤ long)
+Touches t long base (Move event a b n) = (base + (a + n) ≤ long) × (base + (b + n) ≤ long)
+Touches t long base (Same wanted a b c n) = (base + a < long) × (base + (b + n) ≤ long) × (base + (c + n) ≤ long)
 Touches t long base (Bin op a b c) = (base + a < long) × (base + b < long) × (base + c < long)
 Touches t long base (Un op a b) = (base + a < long) × (base + b < long)
 Touches t long base (JumpZero a to) = base + a < long
 Touches t long base (Call g) = Callable t long base g
-Touches t long base (Argument a b) = base + a < long
-Touches t long base (ArgumentWords a b n) = base + (a + n) ≤ long
-Touches t long base (SetResults a b n) = base + (a + n) ≤ long
+Touches t long base (Incoming direction a b n) = base + (a + n) ≤ long
 Touches t long base (Load a b off n) = (base + (a + n) ≤ long) × (base + b < long)
-Touches t long base (Store a off c n) = (base + a < long) × (base + (c + n) ≤ long)
+Touches t long base (Store event a off c n) = (base + a < long) × (base + (c + n) ≤ long)
 Touches t long base (Address a b) = (base + a < long) × (base + b < long)
 Touches t long base (Offset a b off) = (base + a < long) × (base + b < long)
 Touches t long base (Index a b c len w) = (base + a < long) × (base + b < long) × (base + c < long)
@@ -94,15 +90,14 @@ HasRoom heap long base count Nowhere = ⊤
 -- an instruction that programs do seldom
 abbrev pub IsRare : Instr → Type 0
 IsRare (Const a word) = ⊥
-IsRare (Move a b) = ⊥
-IsRare (MoveWords a b n) = ⊥
+IsRare (Move event a b n) = ⊥
 IsRare (Bin op a b c) = ⊥
 IsRare (Jump to) = ⊥
 IsRare (JumpZero a to) = ⊥
 IsRare (Call g) = ⊥
-IsRare (ArgumentWords a b n) = ⊥
-IsRare (SetResults a b n) = ⊥
+IsRare (Incoming direction a b n) = ⊥
 IsRare (Load a b off n) = ⊥
-IsRare (Store a off c n) = ⊥
+IsRare (Store event a off c n) = ⊥
+IsRare (Born a n site) = ⊥
 IsRare Return = ⊥
 IsRare _ = ⊤

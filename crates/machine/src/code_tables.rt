@@ -12,7 +12,7 @@ use std::marker::Model;
 #[derive(Drop)]
 pub struct Tables<'a> {
     instrs: &'a [Instr],
-    owners: &'a [u16],
+    owners: &'a [u32],
     funcs: &'a [Func],
     strings: &'a [Vec<u8>],
 }
@@ -55,7 +55,7 @@ impl<'a> Tables<'a> {
 
     // The number of a place's function.
     #[inline(always)]
-    pub(crate) fn owner(&self, place: usize) -> u16
+    pub(crate) fn owner(&self, place: usize) -> u32
         requires { place < length self.now.instrs }
         ensures { result ≡ owner_of self.now place }
     {
@@ -91,7 +91,7 @@ impl<'a> Tables<'a> {
 
     // A function that can be called from the frame at an index.
     #[inline(always)]
-    pub(crate) fn callee(&self, _words: &Vec<u64>, _base: usize, func: u16) -> Func
+    pub(crate) fn callee(&self, _words: &Vec<u64>, _base: usize, func: u32) -> Func
         requires { Callable self.now (length _words.now.items) _base func }
         ensures is { slice_get self.now.funcs func ≡ Some result }
         ensures linked { 2 ≤ result.frame }
@@ -112,7 +112,7 @@ impl<'a> Tables<'a> {
 
     // Whether a place stands after a call of a function.
     #[inline(always)]
-    pub(crate) fn follows_call(&self, f: u16, ret: u64) -> bool
+    pub(crate) fn follows_call(&self, f: u32, ret: u64) -> bool
         ensures is { result ≡ follows_call self.now f ret }
         ensures inside { IsTrue result → (0 < ret) × (ret ≤ length self.now.instrs) }
         ensures named { IsTrue result → slice_get self.now.instrs (ret - 1) ≡ Some (Instr.Call f) }

@@ -95,8 +95,19 @@ fn copy_block(words: &mut Vec<u64>, from: usize, to: usize, count: usize)
     copy_words(words.as_mut_slice(), from, to, count);
 }
 
-/// `count` slots from `to` on get the words of the slots from `from` on, as through a copy. One word is most often copied, and
-/// then by no call.
+// `count` slots from `to` on get the words of the slots from `from` on, as through a copy. It stands out of line, so that the
+// other instructions keep their registers.
+#[inline(never)]
+fn copy_apart(words: &mut Vec<u64>, base: usize, from: usize, to: usize, count: usize)
+    requires { (base + (from + count) ≤ length words.old.items) × (base + (to + count) ≤ length words.old.items) }
+    ensures words { drop base words.new.items
+        ≡ put_words (drop base words.old.items) to (words_at (drop base words.old.items) from count) }
+    ensures length { length words.new.items ≡ length words.old.items }
+{
+    copy_block(words, base + from, base + to, count);
+}
+
+/// The same. One word is most often copied, and then by no call.
 #[inline(always)]
 pub fn copy_slots(words: &mut Vec<u64>, base: usize, from: usize, to: usize, count: usize)
     requires { (base + (from + count) ≤ length words.old.items) × (base + (to + count) ≤ length words.old.items) }
@@ -109,7 +120,7 @@ pub fn copy_slots(words: &mut Vec<u64>, base: usize, from: usize, to: usize, cou
         set_slot(words, base, to, word);
         return;
     }
-    copy_block(words, base + from, base + to, count);
+    copy_apart(words, base, from, to, count);
 }
 
 // The words from one index up to another are zero.
@@ -140,4 +151,28 @@ pub fn zero_slots(words: &mut Vec<u64>, base: usize, from: usize, count: usize)
     ensures length { length words.new.items ≡ length words.old.items }
 {
     zero(words, base + from, base + from + count);
+}
+
+// The same, out of line.
+#[inline(never)]
+fn zero_apart(words: &mut Vec<u64>, base: usize, from: usize, count: usize)
+    requires { base + (from + count) ≤ length words.old.items }
+    ensures words { drop base words.new.items ≡ zeroed (drop base words.old.items) from count }
+    ensures length { length words.new.items ≡ length words.old.items }
+{
+    zero_slots(words, base, from, count);
+}
+
+/// The same. One slot is most often cleared, and then by no call.
+#[inline(always)]
+pub fn clear_slots(words: &mut Vec<u64>, base: usize, from: usize, count: usize)
+    requires { base + (from + count) ≤ length words.old.items }
+    ensures words { drop base words.new.items ≡ zeroed (drop base words.old.items) from count }
+    ensures length { length words.new.items ≡ length words.old.items }
+{
+    if count == 1 {
+        set_slot(words, base, from, 0);
+        return;
+    }
+    zero_apart(words, base, from, count);
 }

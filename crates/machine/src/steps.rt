@@ -7,7 +7,7 @@ ghost use Rattle.std.specs.Fmt.{signed_decimal};
 ghost use Rattle.std.specs.Int.{w64, cast_signed};
 ghost use Rattle.std.specs.Prelude.{◌≡◌, ◌⊎◌, ◌≢◌, ℕ, List, Option, [], OnOk, OnErr, IfOk, IfErr, ◌+◌, ◌-◌, ◌<◌, ◌≤◌, ◌^◌, ◌==◌, length, drop, map, if◌then◌else◌, slice_get, slice_index, slice_set, Some, None, IfSome, FitsSigned};
 ghost use Rattle.heap_bump.specs.Words.{Words};
-ghost use Rattle.machine.specs.Machine.{Range, Item, upper_end, full_range, act, reads_item, item_words, put_words, exit_of, prints, truth_bytes, panic_of, address_of, frame_of, owner_of};
+ghost use Rattle.machine.specs.Machine.{Range, Item, upper_end, full_range, act, as_wanted, passed, reads_item, item_words, put_words, exit_of, prints, truth_bytes, panic_of, address_of, frame_of, owner_of};
 ghost use Rattle.machine.specs.Inside.{Inside, IsRare, Leads, Touches};
 ghost use Rattle.machine.specs.Answers.{Answers, StatusFits, NeedsMemory, NoRoom, PrintsAt, WithAnswers, state_of};
 
@@ -16,10 +16,10 @@ use crate::code_tables::Tables;
 use crate::links::{address, call, leave};
 use crate::memory::{index, load, offset, slot_address, store};
 use crate::slices::{append, copy, slice_index, slice_part};
-use crate::slots::{copy_slots, same_slots, set_slot, slot, zero_slots};
+use crate::slots::{clear_slots, copy_slots, same_slots, set_slot, slot, zero_slots};
 use crate::{Ending, Next, Panic, RunState};
 use heap_bump::Heap;
-use isa::{BinFault, Instr, bin, bit, un};
+use isa::{BinFault, Direction, Instr, Sameness, bin, bit, un};
 use outside::{IntReader, ReadFault, Sink, Source, WriteFault, put_bool, put_bytes, put_int};
 use std::alloc::Global;
 
@@ -108,6 +108,29 @@ fn incoming(
         return Ok(index);
     }
     Err(Ending::WildAddress(address(stack_max, words.len() - base) + index as u64))
+}
+
+// Words go between slots from `a` on and incoming words from an index on.
+#[inline(always)]
+fn pass(words: &mut Vec<u64>, base: usize, direction: Direction, a: u16, index: usize, n: u16)
+    requires { (base + (a + n) ≤ length words.old.items) × (base + (index + n) ≤ length words.old.items) }
+    ensures words { drop base words.new.items ≡ passed (drop base words.old.items) direction a index n }
+    ensures length { length words.new.items ≡ length words.old.items }
+{
+    match direction {
+        Direction::ToSlots => copy_slots(words, base, index, a as usize, n as usize),
+        Direction::FromSlots => copy_slots(words, base, a as usize, index, n as usize),
+    }
+}
+
+// Whether words that are the same, or are not, are as it is wanted.
+fn as_wanted(wanted: Sameness, same: bool) -> bool
+    ensures { result ≡ as_wanted wanted same }
+{
+    match wanted {
+        Sameness::Equal => same,
+        Sameness::Different => !same,
+    }
 }
 
 // The panic of an operation that gives nothing.
@@ -245,31 +268,15 @@ fn rare_step<I: Source, O: Sink>(
             zero_slots(words, base, a as usize, n as usize);
             Next::on(at)
         }
-        Instr::Same { a, b, c, n } => {
+        Instr::Same { wanted, a, b, c, n } => {
             let same = same_slots(words, base, b as usize, c as usize, n as usize);
-            set_slot(words, base, a as usize, bit(same));
-            Next::on(at)
-        }
-        Instr::Differ { a, b, c, n } => {
-            let same = same_slots(words, base, b as usize, c as usize, n as usize);
-            set_slot(words, base, a as usize, bit(!same));
+            set_slot(words, base, a as usize, bit(as_wanted(wanted, same)));
             Next::on(at)
         }
         Instr::Un { op, a, b } => {
             let word = un(op, slot(words, base, b as usize));
             set_slot(words, base, a as usize, word);
             Next::on(at)
-        }
-        Instr::Argument { a, b } => {
-            let frame = tables.own_frame(words, at);
-            match incoming(words, stack_max, base, frame, b, 1) {
-                Ok(index) => {
-                    let word = slot(words, base, index);
-                    set_slot(words, base, a as usize, word);
-                    Next::on(at)
-                }
-                Err(ending) => Next::ended(at, ending),
-            }
         }
         Instr::Address { a, b } => {
             let word = slot_address(words, stack_max, base, b);
@@ -280,10 +287,6 @@ fn rare_step<I: Source, O: Sink>(
         Instr::Index { a, b, c, len, w } => index(words, at, a, b, c, len, w),
         Instr::SliceIndex { a, b, c, w } => slice_index(words, at, a, b, c, w),
         Instr::Slice { a, b, c, w } => slice_part(words, at, a, b, c, w),
-        Instr::Born { a, n, site: _ } => {
-            zero_slots(words, base, a as usize, n as usize);
-            Next::on(at)
-        }
         Instr::Alloc { a, n, site: _ } => allocate(words, heap, at, a, n as u64),
         Instr::Make { a, w, site: _ } => make(words, heap, at, a, w),
         Instr::Append {
@@ -315,15 +318,14 @@ fn rare_step<I: Source, O: Sink>(
         // These are no rare ones.
         Instr::Const { .. }
         | Instr::Move { .. }
-        | Instr::MoveWords { .. }
         | Instr::Bin { .. }
         | Instr::Jump { .. }
         | Instr::JumpZero { .. }
         | Instr::Call { .. }
-        | Instr::ArgumentWords { .. }
-        | Instr::SetResults { .. }
+        | Instr::Incoming { .. }
         | Instr::Load { .. }
         | Instr::Store { .. }
+        | Instr::Born { .. }
         | Instr::Return => unreachable!(),
     }
 }
@@ -413,12 +415,7 @@ pub fn step<I: Source, O: Sink>(
             set_slot(words, base, a as usize, word);
             Next::on(at)
         }
-        Instr::Move { a, b } => {
-            let word = slot(words, base, b as usize);
-            set_slot(words, base, a as usize, word);
-            Next::on(at)
-        }
-        Instr::MoveWords { a, b, n } => {
+        Instr::Move { event: _, a, b, n } => {
             copy_slots(words, base, b as usize, a as usize, n as usize);
             Next::on(at)
         }
@@ -449,28 +446,28 @@ pub fn step<I: Source, O: Sink>(
             let callee = tables.callee(words, base, func);
             call(alloc, words, stack_max, at, frame, callee)
         }
-        Instr::ArgumentWords { a, b, n } => {
+        Instr::Incoming { direction, a, b, n } => {
             let frame = tables.own_frame(words, at);
             match incoming(words, stack_max, base, frame, b, n) {
                 Ok(index) => {
-                    copy_slots(words, base, index, a as usize, n as usize);
-                    Next::on(at)
-                }
-                Err(ending) => Next::ended(at, ending),
-            }
-        }
-        Instr::SetResults { a, b, n } => {
-            let frame = tables.own_frame(words, at);
-            match incoming(words, stack_max, base, frame, b, n) {
-                Ok(index) => {
-                    copy_slots(words, base, a as usize, index, n as usize);
+                    pass(words, base, direction, a, index, n);
                     Next::on(at)
                 }
                 Err(ending) => Next::ended(at, ending),
             }
         }
         Instr::Load { a, b, off, n } => load(words, stack_max, heap, at, a, b, off, n),
-        Instr::Store { a, off, c, n } => store(words, stack_max, heap, at, a, off, c, n),
+        Instr::Store {
+            event: _,
+            a,
+            off,
+            c,
+            n,
+        } => store(words, stack_max, heap, at, a, off, c, n),
+        Instr::Born { a, n, site: _ } => {
+            clear_slots(words, base, a as usize, n as usize);
+            Next::on(at)
+        }
         Instr::Return => leave(tables, words, stack_max, at),
         _ => rare_step_apart(
             tables, instr, words, stack_max, heap, at, reader, input, out,

@@ -1,7 +1,7 @@
 -- That temps suffice for addresses after values.
 use Rattle.std.proofs.Common.{◌≡◌, ℕ, zero, suc, ◌+◌, ◌≤◌, List, [], ◌∷◌, length, refl, ap, arith}
 use Rattle.typed_syntax.specs.Types.{TypeTree}
-use Rattle.typed_syntax.specs.Syntax.{Pl, Steps, local, global, here, inner, at_index, Left, Program, blank, new, to}
+use Rattle.typed_syntax.specs.Syntax.{Pl, Steps, local, global, indirect, slice_element, here, inner, at_index, Left, Program, blank, new, to}
 use Rattle.typed_syntax.specs.Form.{LeftsFit}
 use Rattle.frames.specs.Frames.{far, left_far, behind_values, key_need, place_need, steps_need, lefts_need, place_reach, steps_reach, lefts_reach}
 use Rattle.program_code.specs.Code.{steps_above, place_above, lefts_above}
@@ -26,9 +26,16 @@ module _ (fs : Program) where
   steps_room temps h behind (inner i steps) l = steps_room temps h behind steps l
   steps_room temps h behind (at_index at e n steps) l = steps_room temps (h + 1) behind steps (omega arith)
 
+  steps_behind : (behind : ℕ) (steps : Steps) → behind ≤ steps_need fs steps behind
+  steps_behind behind here = omega arith
+  steps_behind behind (inner i steps) = steps_behind behind steps
+  steps_behind behind (at_index at e n steps) = let l = steps_behind behind steps in omega arith
+
   pub place_room : (temps h behind : ℕ) (q : Pl) → h + place_need fs q behind ≤ temps → place_above q h + behind ≤ temps
   place_room temps h behind (local site steps) l = steps_room temps h behind steps l
   place_room temps h behind (global g steps) l = steps_room temps h behind steps l
+  place_room temps h behind (indirect at e n steps) l = let k = steps_behind behind steps in omega arith
+  place_room temps h behind (slice_element at e i n steps) l = let k = steps_behind behind steps in omega arith
 
   pub lefts_room : (temps h behind : ℕ) (ls : List Left) → h + lefts_need fs ls behind ≤ temps → lefts_above ls h + behind ≤ temps
   lefts_room temps h behind [] l = l
@@ -44,6 +51,7 @@ module _ (fs : Program) where
   pub place_from : (h : ℕ) (q : Pl) → h ≤ place_above q h
   place_from h (local site steps) = steps_from h steps
   place_from h (global g steps) = steps_from h steps
+  place_from h q = omega arith
 
   -- the calls of what comes with operands
   steps_others : (others : ℕ) (steps : Steps) → others ≤ steps_reach fs steps others
@@ -54,6 +62,8 @@ module _ (fs : Program) where
   pub place_others : (others : ℕ) (q : Pl) → others ≤ place_reach fs q others
   place_others others (local site steps) = steps_others others steps
   place_others others (global g steps) = steps_others others steps
+  place_others others (indirect at e n steps) = let l = steps_others others steps in omega arith
+  place_others others (slice_element at e i n steps) = let l = steps_others others steps in omega arith
 
   pub lefts_others : (others : ℕ) (ls : List Left) → others ≤ lefts_reach fs ls others
   lefts_others others [] = omega arith
@@ -70,6 +80,8 @@ module _ (fs : Program) where
   place_more : (a b : ℕ) (q : Pl) → a ≤ b → place_need fs q a ≤ place_need fs q b
   place_more a b (local site steps) l = steps_more a b steps l
   place_more a b (global g steps) l = steps_more a b steps l
+  place_more a b (indirect at e n steps) l = let k = steps_more a b steps l in omega arith
+  place_more a b (slice_element at e i n steps) l = let k = steps_more a b steps l in omega arith
 
   -- a blank has no operands
   pub key_alone : (key : Left) (n : ℕ) → lefts_reach fs (key ∷ blank ∷ []) n ≡ lefts_reach fs (key ∷ []) n

@@ -2,13 +2,14 @@
 use Rattle.std.proofs.Common.{◌≡◌, ℕ, zero, suc, ◌+◌, Bool, true, false, List, [], ◌∷◌, ◌++◌, length, Some, None, refl, ap, arith, length-append}
 use Rattle.std.specs.Prelude.{Option}
 use Rattle.isa.specs.declared.instr.Instr.{Instr}
-use Rattle.isa.specs.declared.instr.Instr.TheVariants.{Const, Bin, Call, Jump, JumpZero, Return, Exit}
+use Rattle.isa.specs.declared.instr.MoveEvent.TheVariants.{Silent}
+use Rattle.isa.specs.declared.instr.Instr.TheVariants.{Const, Move, Bin, Call, Jump, JumpZero, Return, Exit}
 use Rattle.isa.specs.declared.instr.BinOp.TheVariants as Word
 use Rattle.frames.specs.Frames.{far}
 use Rattle.typed_syntax.specs.Syntax.{Ex, Exs, Pl, Steps, here as itself, inner, at_index, Left, Piece, St, Sts, Func, Program, constant, read, unary, binary, logical_and, logical_or, call, part_of, literal, Elements, no_elements, element, local, global, none, more, results, read_int, blank, new, to, text, shown, over_int, over_length, over_copy, declare, assign, update, bump, discard, block, if_stmt, for_stmt, range, break_stmt, continue_stmt, return_stmt, print, panic, exit, done, next, argument_words, arguments_of, results_of, type_named, wide, all_wide, each_width, value_widths, ascend, words_through, gap_behind}
 use Rattle.frames.specs.Placement.{Placement}
 use Rattle.typed_syntax.specs.Types.{TypeTree, width, part_type, part_offset}
-use Rattle.program_code.specs.Code.{element_code, index_round_code, index_round_size, element_round_code, element_round_size, array_code, Slots, site_slot, site_type, global_type, site_words, place_above, above_address, lefts_above, index_code, index_count, steps_address, steps_address_size, address_size, place_code, place_size, place_end, steps_code, steps_size, steps_end, ready_code, lefts_sized, lefts_end, first_width, other_widths, temp, operation, binary_code, unary_code, address_code, fetch_code, land_code, read_code, write_code, move_code, move_size, result_code, gap_code, gap_size, moves, elements_code, elements_size, call_code, call_size, ex_code, exs_code, pieces_code, test_code, test_size, size, exs_size, pieces_size, raised_code, show_more, show_plain, show_code, more_size, shown_size, lefts_code, lefts_size, named_write_code, named_read_code, named_read_size, leave_code, leave_size, values_code, values_size, params_code, params_size, zeros_code, renew_code, renew_size, st_code, sts_code, st_size, sts_size, slots_of, entry_code, entry_size, func_code, func_size}
+use Rattle.program_code.specs.Code.{element_code, index_round_code, index_round_size, element_round_code, element_round_size, array_code, Slots, birth_code, site_slot, site_type, global_type, site_words, place_above, above_address, lefts_above, index_code, index_count, steps_address, steps_address_size, address_size, place_code, place_size, place_end, steps_code, steps_size, steps_end, ready_code, lefts_sized, lefts_end, first_width, other_widths, temp, operation, binary_code, unary_code, address_code, fetch_code, land_code, read_code, write_code, move_code, move_size, result_code, gap_code, gap_size, elements_code, elements_size, call_code, call_size, ex_code, exs_code, pieces_code, test_code, test_size, size, exs_size, pieces_size, raised_code, show_more, show_plain, show_code, more_size, shown_size, lefts_code, lefts_size, named_write_code, named_read_code, named_read_size, leave_code, leave_size, values_code, values_size, params_code, params_size, zeros_code, renew_code, renew_size, st_code, sts_code, st_size, sts_size, slots_of, entry_code, entry_size, func_code, func_size}
 
 pub length_move : (n a b : ℕ) → length (move_code n a b) ≡ move_size n
 length_move zero a b = refl
@@ -35,6 +36,7 @@ length_steps_address s slot t (at_index p e n steps) first at = ap (λ l. suc (s
 pub length_address : (s : Slots) (p : Pl) (first at : ℕ) → length (address_code s p first at) ≡ address_size p
 length_address s (local site steps) first at = length_steps_address s (site_slot s site) (site_type s site) steps first at
 length_address s (global g steps) first at = ap suc (length_index s (global_type s g) steps first at)
+length_address s q first at = refl
 
 pub length_read : (s : Slots) (p : Pl) (at h : ℕ) → length (read_code s p at h) ≡ address_size p + 1
 length_read s p at h = let one : length (fetch_code s p at h ∷ []) ≡ 1 = refl in omega (arith, one, length-append (address_code s p h at) (fetch_code s p at h ∷ []), length_address s p h at)
@@ -45,7 +47,7 @@ length_write s p first at h = let one : length (land_code s p at h ∷ []) ≡ 1
 pub length_lefts : (s : Slots) (ns : List ℕ) (ls : List Left) (first at h : ℕ) → length (lefts_code s ns ls first at h) ≡ lefts_size ls
 length_lefts s ns [] first at h = refl
 length_lefts s ns (blank ∷ ls) first at h = length_lefts s (other_widths ns) ls first at (h + first_width ns)
-length_lefts s ns (new site ∷ ls) first at h = ap suc (length_lefts s (other_widths ns) ls first at (h + first_width ns))
+length_lefts s ns (new site ∷ ls) first at h = ap (λ l. suc (suc l)) (length_lefts s (other_widths ns) ls first at (h + first_width ns))
 length_lefts s ns (to p ∷ ls) first at h =
     let above = place_above p first in
     omega (arith, length-append (write_code s p first at h) (lefts_code s (other_widths ns) ls above at (h + first_width ns)), length_write s p first at h, length_lefts s (other_widths ns) ls above at (h + first_width ns))
@@ -71,7 +73,7 @@ length_values s arguments (suc n) (site ∷ sites) h = length_named_write s (sit
 pub length_params : (s : Slots) (ns : List ℕ) (ps : List (Option ℕ)) (i : ℕ) → length (params_code s ns ps i) ≡ params_size ps
 length_params s ns [] i = refl
 length_params s ns (None ∷ ps) i = length_params s (other_widths ns) ps (i + first_width ns)
-length_params s ns (Some site ∷ ps) i = ap suc (length_params s (other_widths ns) ps (i + first_width ns))
+length_params s ns (Some site ∷ ps) i = ap (λ l. suc (suc l)) (length_params s (other_widths ns) ps (i + first_width ns))
 
 pub length_zeros : (s : Slots) (sites : List ℕ) → length (zeros_code s sites) ≡ length sites
 length_zeros s [] = refl
@@ -79,7 +81,7 @@ length_zeros s (site ∷ sites) = ap suc (length_zeros s sites)
 
 pub length_renew : (s : Slots) (sites : List ℕ) (h : ℕ) → length (renew_code s sites h) ≡ renew_size sites
 length_renew s [] h = refl
-length_renew s (site ∷ sites) h = ap (λ l. suc (suc l)) (length_renew s sites h)
+length_renew s (site ∷ sites) h = ap (λ l. suc (suc (suc l))) (length_renew s sites h)
 
 pub length_more : (s : Slots) (ps : List Piece) (h : ℕ) → length (show_more s ps h) ≡ more_size ps
 length_more s [] h = refl
@@ -123,10 +125,12 @@ module _ (fs : Program) where
   pub place_sum : (p : Pl) (n : ℕ) → place_size fs p n ≡ place_size fs p 0 + n
   place_sum (local site steps) n = steps_sum steps n
   place_sum (global g steps) n = steps_sum steps n
+  place_sum q n = omega arith
 
   pub place_ends : (p : Pl) (pc : ℕ) → place_end fs p pc ≡ pc + place_size fs p 0
   place_ends (local site steps) pc = steps_ends steps pc
   place_ends (global g steps) pc = steps_ends steps pc
+  place_ends q pc = omega arith
 
   pub lefts_sum : (ls : List Left) (n : ℕ) → lefts_sized fs ls n ≡ lefts_sized fs ls 0 + n
   lefts_sum [] n = omega arith
@@ -165,12 +169,14 @@ module _ (fs : Program) where
     length_code s (call f es) h pc = omega (arith, length-append (exs_code fs s es h pc) (call_code fs s f h), length_exs s es h pc, length_call s f h)
     length_code s (part_of n i e) h pc =
         let t = type_named fs n in
-        omega (arith, length_last (ex_code fs s e h pc) (moves (width (part_type t i)) (temp s h) (temp s (h + part_offset t i))), length_code s e h pc)
+        omega (arith, length_last (ex_code fs s e h pc) (Move Silent (temp s h) (temp s (h + part_offset t i)) (width (part_type t i))), length_code s e h pc)
     length_code s (literal n es) h pc = omega (arith, length_elements s (type_named fs n) (ascend es) es h (pc + 1))
+    length_code s e h pc = refl
 
     pub length_place : (s : Slots) (p : Pl) (h pc : ℕ) → length (place_code fs s p h pc) ≡ place_size fs p 0
     length_place s (local site steps) h pc = length_steps s steps h pc
     length_place s (global g steps) h pc = length_steps s steps h pc
+    length_place s q h pc = refl
 
     pub length_steps : (s : Slots) (steps : Steps) (h pc : ℕ) → length (steps_code fs s steps h pc) ≡ steps_size fs steps 0
     length_steps s itself h pc = refl
@@ -186,7 +192,7 @@ module _ (fs : Program) where
         omega (arith, length-append ce (cg ++ rest), length-append cg rest, length_gap gap (temp s (h + words_through t i)), length_code s e here pc, length_elements s t true es h (pc + size fs e + gap_size gap))
     length_elements s t false (element i e es) h pc =
         let ce = ex_code fs s e (h + width t) pc in let rest = elements_code fs s t false es h (pc + size fs e + 1) in
-        let move = moves (width (part_type t i)) (temp s (h + part_offset t i)) (temp s (h + width t)) in
+        let move = Move Silent (temp s (h + part_offset t i)) (temp s (h + width t)) (width (part_type t i)) in
         let one : length (move ∷ rest) ≡ suc (length rest) = refl in
         omega (arith, one, length-append ce (move ∷ rest), length_code s e (h + width t) pc, length_elements s t false es h (pc + size fs e + 1))
 
@@ -310,11 +316,12 @@ module _ (fs : Program) where
           let cr = index_round_code fs s key h (pc + 4) in let cb = sts_code fs arguments named s body (h + 1) behind turn inside in
           omega (arith, length_array s x h (pc + 1) behind cr cb, length_index_round s key h (pc + 4), length_sts s body (h + 1) behind turn inside)
       length_st s (range (over_copy site e x) key value body) h out again pc =
-          let start = pc + size fs e + 1 in let inside = start + 4 + element_round_size fs key value in let turn = inside + sts_size fs arguments named body in let behind = turn + 3 in
+          let start = pc + size fs e + 2 in let inside = start + 4 + element_round_size fs key value in let turn = inside + sts_size fs arguments named body in let behind = turn + 3 in
           let ce = ex_code fs s e h pc in let cr = element_round_code fs s site x key value h (start + 4) in let cb = sts_code fs arguments named s body (h + 1) behind turn inside in
-          let rest = array_code s x h (start + 1) behind cr cb in let move = moves (site_words s site) (site_slot s site) (temp s h) in
-          let one : length (move ∷ rest) ≡ suc (length rest) = refl in
-          omega (arith, one, length-append ce (move ∷ rest), length_code s e h pc, length_array s x h (start + 1) behind cr cb, length_element_round s site x key value h (start + 4), length_sts s body (h + 1) behind turn inside)
+          let rest = array_code s x h (start + 1) behind cr cb in let copy = birth_code s site h in
+          let two : length (copy ++ rest) ≡ suc (suc (length rest)) = refl in
+          omega (arith, two, length-append ce (copy ++ rest), length_code s e h pc, length_array s x h (start + 1) behind cr cb, length_element_round s site x key value h (start + 4), length_sts s body (h + 1) behind turn inside)
+      length_st s (range over key value body) h out again pc = refl
       length_st s break_stmt h out again pc = refl
       length_st s continue_stmt h out again pc = refl
       length_st s (return_stmt es) h out again pc =

@@ -5,7 +5,7 @@ use Rattle.typed_syntax.specs.declared.operators.BinOp.TheVariants.{Add, Sub, Mu
 use Rattle.typed_syntax.specs.declared.operators.UnOp.{UnOp}
 use Rattle.typed_syntax.specs.declared.operators.UnOp.TheVariants.{Plus, Negate, Complement, Not}
 use Rattle.typed_syntax.specs.Types.{TypeTree, width, part_type}
-use Rattle.typed_syntax.specs.Value.{Value, int, bool, composite, IsOf}
+use Rattle.typed_syntax.specs.Value.{Value, int, bool, IsOf}
 use Rattle.typed_syntax.specs.Paths.{type_at}
 use Rattle.typed_syntax.specs.Words.{contents}
 use Rattle.value_laws.proofs.Parts.{count_of, element}
@@ -79,6 +79,7 @@ module _ (p : Program) where
   pub place_is_of : (scope : List ℕ) (t : TypeTree) (q : Pl) → PlFits p scope t q → place_type p q ≡ t
   place_is_of scope t (local site steps) fit = steps_are scope (site_type p site) t steps fit.1
   place_is_of scope t (global g steps) fit = steps_are scope (global_type p g) t steps fit.1
+  place_is_of scope t q fit = absurd fit
 
   one_of : (ts : List TypeTree) (t : TypeTree) → ts ≡ t ∷ [] → all_width ts ≡ width t
   one_of ts t e = let q = ap all_width e in omega (arith, q)
@@ -86,7 +87,7 @@ module _ (p : Program) where
   pub wide_is : (scope : List ℕ) (t : TypeTree) (e : Ex) → ExFits p scope t e → wide p e ≡ width t
   wide_is scope t (constant (int z)) fit = count_of t (int z) fit.0
   wide_is scope t (constant (bool b)) fit = count_of t (bool b) fit.0
-  wide_is scope t (constant (composite vs)) fit = absurd fit.1
+  wide_is scope t (constant v) fit = absurd fit.1
   wide_is scope t (read q) fit = ap width (place_is_of scope t q fit)
   wide_is scope t (unary o e) fit = sym (plain_one t (takes_one o t fit.0))
   wide_is scope t (binary at o a b) fit = sym (plain_one t (takes_gives o fit.0 t fit.1))
@@ -95,6 +96,7 @@ module _ (p : Program) where
   wide_is scope t (call f es) fit = ap results_in fit.1 ∙ one_of fit.0.results t fit.2
   wide_is scope t (part_of n i e) fit = ap width fit.1
   wide_is scope t (literal n es) fit = ap width fit.0
+  wide_is scope t e fit = absurd fit
 
   pub all_wide_is : (scope : List ℕ) (ts : List TypeTree) (es : Exs) → ExsFit p scope ts es → all_wide p es ≡ all_width ts
   all_wide_is scope [] none fit = refl

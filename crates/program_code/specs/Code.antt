@@ -1,4 +1,5 @@
--- The code of a program: a table of each function's instructions, one function after the other.
+-- The code of a program: a table of each function's instructions, one function after the other. Forms that no program in form has, as
+-- those of pointers and slices, have no instructions yet.
 use Rattle.std.specs.Prelude.{ℕ, zero, suc, ◌+◌, ◌-◌, Bool, true, false, List, [], ◌∷◌, ◌++◌, Option, Some, None, length, map, replicate, get_or}
 use Rattle.std.specs.Int.{w64, cast_unsigned}
 use Rattle.isa.specs.Bin.{bit_of}
@@ -6,15 +7,19 @@ use Rattle.isa.specs.Code.{Tables}
 use Rattle.isa.specs.declared.instr.BinOp.{BinOp}
 use Rattle.isa.specs.declared.instr.BinOp.TheVariants as Word
 use Rattle.isa.specs.declared.instr.UnOp.TheVariants as WordOne
+use Rattle.isa.specs.declared.instr.Direction.TheVariants.{ToSlots, FromSlots}
+use Rattle.isa.specs.declared.instr.MoveEvent.TheVariants.{Silent, Read, Write}
+use Rattle.isa.specs.declared.instr.Sameness.TheVariants as Wanted
+use Rattle.isa.specs.declared.instr.StoreEvent.TheVariants as Stored
 use Rattle.isa.specs.declared.instr.Instr.{Instr}
-use Rattle.isa.specs.declared.instr.Instr.TheVariants.{Const, Zero, Move, Same, Differ, Bin, Un, Jump, JumpZero, MoveWords, Call, ArgumentWords, SetResults, Load, Store, Address, Index, ReadInt, PrintInt, PrintBool, PrintText, PrintSpace, PrintLine, Return, Exit, PanicText, PanicInt, PanicBool}
+use Rattle.isa.specs.declared.instr.Instr.TheVariants.{Const, Zero, Move, Same, Bin, Un, Jump, JumpZero, Call, Incoming, Load, Store, Address, Index, Born, ReadInt, PrintInt, PrintBool, PrintText, PrintSpace, PrintLine, Return, Exit, PanicText, PanicInt, PanicBool}
 use Rattle.isa.specs.declared.func.Func.{Func as Entry}
 use Rattle.typed_syntax.specs.declared.operators.BinOp.{BinOp as Operator}
 use Rattle.typed_syntax.specs.declared.operators.BinOp.TheVariants.{Add, Sub, Mul, Div, Rem, And, Or, Xor, AndNot, ShiftLeft, ShiftRight, Equal, NotEqual, Less, LessEqual, Greater, GreaterEqual}
 use Rattle.typed_syntax.specs.declared.operators.UnOp.{UnOp}
 use Rattle.typed_syntax.specs.declared.operators.UnOp.TheVariants as One
 use Rattle.typed_syntax.specs.Types.{TypeTree, ints, bools, width, part_type, part_offset}
-use Rattle.typed_syntax.specs.Value.{Value, int, bool, composite}
+use Rattle.typed_syntax.specs.Value.{Value, int, bool}
 use Rattle.typed_syntax.specs.Paths.{type_at, offset}
 use Rattle.typed_syntax.specs.Syntax.{Ex, Exs, Pl, Steps, here, inner, at_index, Left, Piece, St, Sts, Func, Program, constant, read, unary, binary, logical_and, logical_or, call, part_of, literal, Elements, no_elements, element, local, global, none, more, results, read_int, blank, new, to, text, shown, over_int, over_length, over_copy, declare, assign, update, bump, discard, block, if_stmt, for_stmt, range, break_stmt, continue_stmt, return_stmt, print, panic, exit, done, next, argument_words, result_words, arguments_of, results_of, type_named, path_of, wide, all_wide, each_width, value_widths, ascend, words_through, gap_behind}
 use Rattle.frames.specs.Placement.{Placement}
@@ -43,11 +48,11 @@ operation GreaterEqual = Word.GreaterEqual
 -- whether n words from slot a on are those from slot b on goes to slot a
 abbrev pub same_code : (n a b : ℕ) → Instr
 same_code (suc zero) a b = Bin Word.Equal a a b
-same_code n a b = Same a a b n
+same_code n a b = Same Wanted.Equal a a b n
 
 abbrev pub differ_code : (n a b : ℕ) → Instr
 differ_code (suc zero) a b = Bin Word.NotEqual a a b
-differ_code n a b = Differ a a b n
+differ_code n a b = Same Wanted.Different a a b n
 
 -- an operator on operands of n words, from slots a and b on; what it gives goes to slot a
 abbrev pub binary_code : Operator → (n a b : ℕ) → Instr
@@ -56,7 +61,7 @@ binary_code NotEqual n a b = differ_code n a b
 binary_code op n a b = Bin (operation op) a a b
 
 abbrev pub unary_code : UnOp → ℕ → Instr
-unary_code One.Plus a = Move a a
+unary_code One.Plus a = Move Silent a a 1
 unary_code One.Negate a = Un WordOne.Negate a a
 unary_code One.Complement a = Un WordOne.Complement a a
 unary_code One.Not a = Un WordOne.IsZero a a
@@ -65,7 +70,7 @@ unary_code One.Not a = Un WordOne.IsZero a a
 abbrev pub word_of : Value → ℕ
 word_of (int z) = cast_unsigned w64 z
 word_of (bool b) = bit_of b
-word_of (composite vs) = 0
+word_of v = 0
 
 -- The slots of a frame, from its lowest word: the outgoing area, the temps, of `count` sites from this one on the cells of those whose
 -- variables live on the heap and then the others, each with the words of its type; above them the link and the return place. The
@@ -102,11 +107,7 @@ part_slot s site path = site_slot s site + offset (site_type s site) path
 abbrev pub part_words : Slots → ℕ → List ℕ → ℕ
 part_words s site path = width (type_at (site_type s site) path)
 
--- some words go from slots from b on to slots from a on, and slots from a on get zeros
-abbrev pub moves : (n a b : ℕ) → Instr
-moves (suc zero) a b = Move a b
-moves n a b = MoveWords a b n
-
+-- slots from a on get zeros
 abbrev pub zeros : (n a : ℕ) → Instr
 zeros (suc zero) a = Const a 0
 zeros n a = Zero a n
@@ -119,6 +120,13 @@ gap_code (suc n) a = zeros (suc n) a ∷ []
 abbrev pub gap_size : ℕ → ℕ
 gap_size zero = 0
 gap_size (suc n) = 1
+
+-- a variable of a site is born, and one that gets its value from temps from h on
+abbrev pub born_code : Slots → (site : ℕ) → Instr
+born_code s site = Born (site_slot s site) (site_words s site) site
+
+abbrev pub birth_code : Slots → (site h : ℕ) → List Instr
+birth_code s site h = born_code s site ∷ Move Silent (site_slot s site) (temp s h) (site_words s site) ∷ []
 
 -- the type of a package variable
 abbrev pub global_type : Slots → ℕ → TypeTree
@@ -143,6 +151,7 @@ steps_above (at_index p e n steps) h = steps_above steps (h + 1)
 abbrev pub place_above : Pl → (h : ℕ) → ℕ
 place_above (local site steps) h = steps_above steps h
 place_above (global g steps) h = steps_above steps h
+place_above q h = h
 
 abbrev pub above_address : (far at : ℕ) → ℕ
 above_address zero at = at
@@ -182,10 +191,12 @@ steps_address_size (at_index p e n steps) = suc (suc (index_count steps))
 abbrev pub address_code : Slots → Pl → (first at : ℕ) → List Instr
 address_code s (local site steps) first at = steps_address s (site_slot s site) (site_type s site) steps first at
 address_code s (global g steps) first at = Const (temp s at) (global_address s g) ∷ index_code s (global_type s g) steps first at
+address_code s q first at = []
 
 abbrev pub address_size : Pl → ℕ
 address_size (local site steps) = steps_address_size steps
 address_size (global g steps) = suc (index_count steps)
+address_size q = 0
 
 -- the words before a part that are not in its address: those from the first index on that lie before fields and elements by
 -- their numbers
@@ -203,21 +214,23 @@ global_words s g steps = width (type_at (global_type s g) (path_of steps))
 
 -- the words of a place go to temps from h on; its address, if there is one, is in temp `at`
 abbrev pub fetch_part : Slots → (site : ℕ) → Steps → (far at h : ℕ) → Instr
-fetch_part s site steps zero at h = moves (part_words s site (path_of steps)) (temp s h) (part_slot s site (path_of steps))
+fetch_part s site steps zero at h = Move Read (temp s h) (part_slot s site (path_of steps)) (part_words s site (path_of steps))
 fetch_part s site steps (suc n) at h = Load (temp s h) (temp s at) (far_offset (site_type s site) steps) (part_words s site (path_of steps))
 
 abbrev pub fetch_code : Slots → Pl → (at h : ℕ) → Instr
 fetch_code s (local site steps) at h = fetch_part s site steps (steps_far steps) at h
 fetch_code s (global g steps) at h = Load (temp s h) (temp s at) (global_offset s g steps) (global_words s g steps)
+fetch_code s q at h = zeros 0 (temp s h)
 
 -- a place gets the words of temps from h on
 abbrev pub land_part : Slots → (site : ℕ) → Steps → (far at h : ℕ) → Instr
-land_part s site steps zero at h = moves (part_words s site (path_of steps)) (part_slot s site (path_of steps)) (temp s h)
-land_part s site steps (suc n) at h = Store (temp s at) (far_offset (site_type s site) steps) (temp s h) (part_words s site (path_of steps))
+land_part s site steps zero at h = Move Write (part_slot s site (path_of steps)) (temp s h) (part_words s site (path_of steps))
+land_part s site steps (suc n) at h = Store Stored.Write (temp s at) (far_offset (site_type s site) steps) (temp s h) (part_words s site (path_of steps))
 
 abbrev pub land_code : Slots → Pl → (at h : ℕ) → Instr
 land_code s (local site steps) at h = land_part s site steps (steps_far steps) at h
-land_code s (global g steps) at h = Store (temp s at) (global_offset s g steps) (temp s h) (global_words s g steps)
+land_code s (global g steps) at h = Store Stored.Write (temp s at) (global_offset s g steps) (temp s h) (global_words s g steps)
+land_code s q at h = zeros 0 (temp s h)
 
 -- the operands of a place are in temps from h on, and its words go there; temp `at`, above them, is free for the address
 abbrev pub read_code : Slots → Pl → (at h : ℕ) → List Instr
@@ -230,7 +243,7 @@ write_code s p first at h = address_code s p first at ++ land_code s p at h ∷ 
 -- n words go from slots from b on to slots from a on
 abbrev pub move_code : (n a b : ℕ) → List Instr
 move_code zero a b = []
-move_code (suc n) a b = MoveWords a b (suc n) ∷ []
+move_code (suc n) a b = Move Silent a b (suc n) ∷ []
 
 abbrev pub move_size : ℕ → ℕ
 move_size zero = 0
@@ -239,7 +252,7 @@ move_size (suc n) = 1
 -- n values in slots from a on are the results from incoming word b on
 abbrev pub result_code : (n a b : ℕ) → List Instr
 result_code zero a b = []
-result_code (suc n) a b = SetResults a b (suc n) ∷ []
+result_code (suc n) a b = Incoming FromSlots a b (suc n) ∷ []
 
 -- a value of a type in a slot is shown, and a panic with it
 abbrev pub shown_code : TypeTree → (a : ℕ) → Instr
@@ -286,23 +299,23 @@ other_widths (n ∷ ns) = ns
 abbrev pub lefts_code : Slots → (each : List ℕ) → List Left → (first at h : ℕ) → List Instr
 lefts_code s ns [] first at h = []
 lefts_code s ns (blank ∷ ls) first at h = lefts_code s (other_widths ns) ls first at (h + first_width ns)
-lefts_code s ns (new site ∷ ls) first at h = moves (site_words s site) (site_slot s site) (temp s h) ∷ lefts_code s (other_widths ns) ls first at (h + first_width ns)
+lefts_code s ns (new site ∷ ls) first at h = birth_code s site h ++ lefts_code s (other_widths ns) ls first at (h + first_width ns)
 lefts_code s ns (to p ∷ ls) first at h = write_code s p first at h ++ lefts_code s (other_widths ns) ls (place_above p first) at (h + first_width ns)
 
 abbrev pub lefts_size : List Left → ℕ
 lefts_size [] = 0
 lefts_size (blank ∷ ls) = lefts_size ls
-lefts_size (new site ∷ ls) = suc (lefts_size ls)
+lefts_size (new site ∷ ls) = suc (suc (lefts_size ls))
 lefts_size (to p ∷ ls) = address_size p + 1 + lefts_size ls
 
 -- results with names: they get the values in temps from h on, and are the results from incoming word i on
 abbrev pub named_write_code : Slots → List ℕ → (h : ℕ) → List Instr
 named_write_code s [] h = []
-named_write_code s (site ∷ sites) h = moves (site_words s site) (site_slot s site) (temp s h) ∷ named_write_code s sites (h + site_words s site)
+named_write_code s (site ∷ sites) h = Move Write (site_slot s site) (temp s h) (site_words s site) ∷ named_write_code s sites (h + site_words s site)
 
 abbrev pub named_read_code : Slots → List ℕ → (i : ℕ) → List Instr
 named_read_code s [] i = []
-named_read_code s (site ∷ sites) i = moves (site_words s site) (temp s 0) (site_slot s site) ∷ SetResults (temp s 0) i (site_words s site) ∷ named_read_code s sites (i + site_words s site)
+named_read_code s (site ∷ sites) i = Move Read (temp s 0) (site_slot s site) (site_words s site) ∷ Incoming FromSlots (temp s 0) i (site_words s site) ∷ named_read_code s sites (i + site_words s site)
 
 abbrev pub named_read_size : List ℕ → ℕ
 named_read_size [] = 0
@@ -325,29 +338,30 @@ values_size n [] = move_size n
 values_size zero (site ∷ sites) = 0
 values_size (suc n) (site ∷ sites) = length (site ∷ sites)
 
--- parameters of as many words each as the list says, those with sites, get the incoming words from i on, and results with names are 0
+-- parameters of as many words each as the list says, those with sites, are born and get the incoming words from i on
 abbrev pub params_code : Slots → (each : List ℕ) → List (Option ℕ) → (i : ℕ) → List Instr
 params_code s ns [] i = []
 params_code s ns (None ∷ ps) i = params_code s (other_widths ns) ps (i + first_width ns)
-params_code s ns (Some site ∷ ps) i = ArgumentWords (site_slot s site) i (first_width ns) ∷ params_code s (other_widths ns) ps (i + first_width ns)
+params_code s ns (Some site ∷ ps) i = born_code s site ∷ Incoming ToSlots (site_slot s site) i (first_width ns) ∷ params_code s (other_widths ns) ps (i + first_width ns)
 
+-- variables with zeros are born
 abbrev pub zeros_code : Slots → List ℕ → List Instr
 zeros_code s [] = []
-zeros_code s (site ∷ sites) = zeros (site_words s site) (site_slot s site) ∷ zeros_code s sites
+zeros_code s (site ∷ sites) = born_code s site ∷ zeros_code s sites
 
 -- a new round's variables get the words of the old ones, through temps from h on
 abbrev pub renew_code : Slots → List ℕ → (h : ℕ) → List Instr
 renew_code s [] h = []
-renew_code s (site ∷ sites) h = moves (site_words s site) (temp s h) (site_slot s site) ∷ moves (site_words s site) (site_slot s site) (temp s h) ∷ renew_code s sites h
+renew_code s (site ∷ sites) h = Move Read (temp s h) (site_slot s site) (site_words s site) ∷ (birth_code s site h ++ renew_code s sites h)
 
 abbrev pub renew_size : List ℕ → ℕ
 renew_size [] = 0
-renew_size (site ∷ sites) = suc (suc (renew_size sites))
+renew_size (site ∷ sites) = suc (suc (suc (renew_size sites)))
 
 abbrev pub params_size : List (Option ℕ) → ℕ
 params_size [] = 0
 params_size (None ∷ ps) = params_size ps
-params_size (Some site ∷ ps) = suc (params_size ps)
+params_size (Some site ∷ ps) = suc (suc (params_size ps))
 
 -- how many instructions show operands
 abbrev pub more_size : List Piece → ℕ
@@ -363,7 +377,7 @@ shown_size false ps = length ps
 abbrev pub element_code : Slots → (site x h v : ℕ) → List Instr
 element_code s site x h v =
     let a = temp s (v + 1) in let w = width (part_type (site_type s site) 0) in
-    Move (temp s v) (temp s h) ∷ (Address a (site_slot s site) ∷ (Index a a (temp s h) x w ∷ (Load a a 0 w ∷ [])))
+    Move Silent (temp s v) (temp s h) 1 ∷ (Address a (site_slot s site) ∷ (Index a a (temp s h) x w ∷ (Load a a 0 w ∷ [])))
 
 -- the rounds, of these parts, for x elements: the index in temp h begins at 0
 abbrev pub array_code : Slots → (x h test behind : ℕ) → (round body : List Instr) → List Instr
@@ -395,11 +409,13 @@ module _ (p : Program) where
     size (call f es) = exs_size es + call_size f
     size (part_of n i e) = size e + 1
     size (literal n es) = 1 + elements_size (type_named p n) (ascend es) es
+    size e = 0
 
     -- of the operands of a place, and of n more after them
     pub place_size : Pl → (behind : ℕ) → ℕ
     place_size (local site steps) behind = steps_size steps behind
     place_size (global g steps) behind = steps_size steps behind
+    place_size q behind = behind
 
     pub steps_size : Steps → (behind : ℕ) → ℕ
     steps_size here behind = behind
@@ -426,6 +442,7 @@ module _ (p : Program) where
   abbrev pub place_end : Pl → (pc : ℕ) → ℕ
   place_end (local site steps) pc = steps_end steps pc
   place_end (global g steps) pc = steps_end steps pc
+  place_end q pc = pc
 
   -- the same of left sides
   abbrev pub lefts_sized : List Left → (behind : ℕ) → ℕ
@@ -465,13 +482,15 @@ module _ (p : Program) where
     ex_code s (logical_or a b) h pc =
         ex_code s a h pc ++ JumpZero (temp s h) (pc + size a + 2) ∷ (Jump (pc + size a + 2 + size b) ∷ ex_code s b h (pc + size a + 2))
     ex_code s (call f es) h pc = exs_code s es h pc ++ call_code s f h
-    ex_code s (part_of n i e) h pc = ex_code s e h pc ++ moves (width (part_type (type_named p n) i)) (temp s h) (temp s (h + part_offset (type_named p n) i)) ∷ []
+    ex_code s (part_of n i e) h pc = ex_code s e h pc ++ Move Silent (temp s h) (temp s (h + part_offset (type_named p n) i)) (width (part_type (type_named p n) i)) ∷ []
     ex_code s (literal n es) h pc = zeros (width (type_named p n)) (temp s h) ∷ elements_code s (type_named p n) (ascend es) es h (pc + 1)
+    ex_code s e h pc = []
 
     -- the operands of a place land in temps from h on
     pub place_code : Slots → Pl → (h pc : ℕ) → List Instr
     place_code s (local site steps) h pc = steps_code s steps h pc
     place_code s (global g steps) h pc = steps_code s steps h pc
+    place_code s q h pc = []
 
     pub steps_code : Slots → Steps → (h pc : ℕ) → List Instr
     steps_code s here h pc = []
@@ -486,7 +505,7 @@ module _ (p : Program) where
         let gap = gap_behind t i es in
         ex_code s e (h + part_offset t i) pc ++ (gap_code gap (temp s (h + words_through t i)) ++ elements_code s t true es h (pc + size e + gap_size gap))
     elements_code s t false (element i e es) h pc =
-        ex_code s e (h + width t) pc ++ moves (width (part_type t i)) (temp s (h + part_offset t i)) (temp s (h + width t)) ∷ elements_code s t false es h (pc + size e + 1)
+        ex_code s e (h + width t) pc ++ Move Silent (temp s (h + part_offset t i)) (temp s (h + width t)) (width (part_type t i)) ∷ elements_code s t false es h (pc + size e + 1)
 
     pub exs_code : Slots → Exs → (h pc : ℕ) → List Instr
     exs_code s none h pc = []
@@ -540,7 +559,8 @@ module _ (p : Program) where
       st_size (for_stmt sites test post body) = test_size test + sts_size body + renew_size sites + sts_size post + 1
       st_size (range (over_int e) key value body) = size e + 1 + 2 + lefts_sized (key ∷ []) (lefts_size (key ∷ [])) + sts_size body + 3
       st_size (range (over_length x) key value body) = 4 + index_round_size key + sts_size body + 3
-      st_size (range (over_copy site e x) key value body) = size e + 1 + (4 + element_round_size key value + sts_size body + 3)
+      st_size (range (over_copy site e x) key value body) = size e + 2 + (4 + element_round_size key value + sts_size body + 3)
+      st_size (range over key value body) = 0
       st_size break_stmt = 1
       st_size continue_stmt = 1
       st_size (return_stmt es) = exs_size es + (values_size (all_wide p es) named + leave_size named)
@@ -602,13 +622,14 @@ module _ (p : Program) where
           let behind = turn + 3 in
           array_code s x h (pc + 1) behind (index_round_code s key h (pc + 4)) (sts_code s body (h + 1) behind turn inside)
       st_code s (range (over_copy site e x) key value body) h out again pc =
-          let start = pc + size e + 1 in
+          let start = pc + size e + 2 in
           let inside = start + 4 + element_round_size key value in
           let turn = inside + sts_size body in
           let behind = turn + 3 in
           ex_code s e h pc
-          ++ moves (site_words s site) (site_slot s site) (temp s h)
-          ∷ array_code s x h (start + 1) behind (element_round_code s site x key value h (start + 4)) (sts_code s body (h + 1) behind turn inside)
+          ++ (birth_code s site h
+          ++ array_code s x h (start + 1) behind (element_round_code s site x key value h (start + 4)) (sts_code s body (h + 1) behind turn inside))
+      st_code s (range over key value body) h out again pc = []
       st_code s break_stmt h out again pc = Jump out ∷ []
       st_code s continue_stmt h out again pc = Jump again ∷ []
       st_code s (return_stmt es) h out again pc = exs_code s es h pc ++ (values_code s arguments (all_wide p es) named h ++ leave_code s arguments named)
@@ -654,7 +675,7 @@ module _ (p : Program) (l : Placement) where
       entry_code f ++ (sts_code p (argument_words f) f.named (slots_of f) f.body 0 0 0 (pc + entry_size p f) ++ leave_code (slots_of f) (argument_words f) f.named)
 
   abbrev pub entry_of : Func → ℕ → Entry
-  entry_of f pc = record { frame = frame_of p l f; arguments = argument_words f; results = result_words f; start = pc }
+  entry_of f pc = record { frame = frame_of p l f; arguments = argument_words f; results = result_words f; start = pc; size = func_size p f }
 
   -- functions one after the other, from a place on
   abbrev pub funcs_code : List Func → (pc : ℕ) → List Instr

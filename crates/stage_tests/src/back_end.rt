@@ -4,7 +4,7 @@ ghost use Rattle.machine.specs.Inside.{Inside};
 
 use compile::compile;
 use heap_bump::Heap;
-use isa::{Code, Instr};
+use isa::{Code, Direction, Instr};
 use machine::{Ending, Next, RunState, run};
 use outside::{IntReader, MemSink, MemSource};
 use std::alloc::Global;
@@ -119,8 +119,14 @@ fn places_of(code: &Code) -> Places {
     for (place, instr) in code.instrs().iter().enumerate() {
         match instr {
             Instr::Call { .. } if places.after == 0 => places.after = place.saturating_add(1),
-            Instr::Argument { .. } | Instr::ArgumentWords { .. } => places.argument = place,
-            Instr::SetResults { .. } => places.results = place,
+            Instr::Incoming {
+                direction: Direction::ToSlots,
+                ..
+            } => places.argument = place,
+            Instr::Incoming {
+                direction: Direction::FromSlots,
+                ..
+            } => places.results = place,
             Instr::Return => places.leave = place,
             _ => {}
         }

@@ -26,11 +26,11 @@ fn accepted_texts(rt: HostRuntime) -> Result<(), Fail> {
         ("", 2, 1),
         ("println()", 2, 2),
         ("println(1+2*3)", 3, 4),
-        ("x := 9223372036854775807; println(x + 1)", 5, 8),
+        ("x := 9223372036854775807; println(x + 1)", 5, 9),
         (
             "x := -9223372036854775808; y := (x); println(x - y * 2, -x)",
             7,
-            16,
+            18,
         ),
     ];
     for (body, frame, instructions) in table {

@@ -6,7 +6,7 @@ ghost use Rattle.isa.specs.declared.func.Func.{Func};
 
 use crate::back_end::{END, run_from};
 use heap_bump::HEAP_LOW;
-use isa::{Added, Code, Func, Instr};
+use isa::{Added, Code, Direction, Func, Instr, MoveEvent, Sameness, StoreEvent};
 use machine::{Ending, Panic, RunState};
 use outside::MemSink;
 use std::alloc::{AllocError, Global};
@@ -17,13 +17,14 @@ use std::test::Fail;
 pub(crate) const SLOTS: usize = 7;
 
 fn func() -> Func
-    ensures { result ≡ record { frame = 9; arguments = 2; results = 1; start = 0 } }
+    ensures { result ≡ record { frame = 9; arguments = 2; results = 1; start = 0; size = 2 } }
 {
     Func {
         frame: 9,
         arguments: 2,
         results: 1,
         start: 0,
+        size: 2,
     }
 }
 
@@ -46,15 +47,16 @@ fn are_added(added: Added, c: u16, d: u16, w: u16) -> bool
 
 /// Whether an instruction may stand there; of those that are tried here.
 pub(crate) fn fits(instr: Instr) -> bool
-    ensures { IsTrue result → let fn : Func = record { frame = 9; arguments = 2; results = 1; start = 0 } in Fits
+    ensures { IsTrue result → let fn : Func = record { frame = 9; arguments = 2; results = 1; start = 0; size = 2 } in Fits
         (0 ∷ (0 ∷ [])) (fn ∷ []) 0 0 0 7 3 instr }
 {
     match instr {
         Instr::Zero { a, n } => n >= 1 && are_slots(a, n),
-        Instr::Same { a, b, c, n } | Instr::Differ { a, b, c, n } => {
+        Instr::Move { a, b, n, .. } => n >= 1 && are_slots(a, n) && are_slots(b, n),
+        Instr::Same { a, b, c, n, .. } => {
             n >= 1 && are_slots(a, 1) && are_slots(b, n) && are_slots(c, n)
         }
-        Instr::ArgumentWords { a, b, n } => {
+        Instr::Incoming { a, b, n, .. } => {
             n >= 1 && are_slots(a, n) && b as usize + n as usize <= 3
         }
         Instr::Address { a, b } | Instr::Offset { a, b, .. } => are_slots(a, 1) && are_slots(b, 1),
@@ -93,7 +95,7 @@ pub(crate) fn fits(instr: Instr) -> bool
 /// A code of an instruction and a return.
 #[tactic(auto, using(crate::proofs::Alone::alone))]
 pub(crate) fn code_with(alloc: Global, instr: Instr) -> Result<Code, AllocError>
-    requires { let fn : Func = record { frame = 9; arguments = 2; results = 1; start = 0 } in Fits (0 ∷ (0 ∷ []))
+    requires { let fn : Func = record { frame = 9; arguments = 2; results = 1; start = 0; size = 2 } in Fits (0 ∷ (0 ∷ []))
         (fn ∷ []) 0 0 0 7 3 instr }
 {
     let instrs = vec![in alloc; instr, Instr::Return]?;
@@ -158,49 +160,71 @@ fn check_step(
     Ok(())
 }
 
+/// The slots from 0 on get those from 1 on.
+fn moved(event: MoveEvent, n: u16) -> Instr {
+    Instr::Move {
+        event,
+        a: 0,
+        b: 1,
+        n,
+    }
+}
+
+/// The slot 0 tells of the slots from 1 on and from 3 on.
+fn compared(wanted: Sameness, n: u16) -> Instr {
+    Instr::Same {
+        wanted,
+        a: 0,
+        b: 1,
+        c: 3,
+        n,
+    }
+}
+
+/// Two slots from `a` on get incoming words.
+fn taken(a: u16, b: u16) -> Instr {
+    Instr::Incoming {
+        direction: Direction::ToSlots,
+        a,
+        b,
+        n: 2,
+    }
+}
+
+/// Two incoming words get the first slots.
+#[test]
+fn incoming_words_get_slots(rt: HostRuntime) -> Result<(), Fail> {
+    let instr = Instr::Incoming {
+        direction: Direction::FromSlots,
+        a: 0,
+        b: 1,
+        n: 2,
+    };
+    assert!(&rt; fits(instr));
+    let code = code_with(rt.alloc(), instr)?;
+    let mut words = stack(rt.alloc(), BEFORE, &[41, 42, 43])?;
+    let mut out = MemSink::new(rt.alloc(), Vec::new(rt.alloc()));
+    let at = RunState { pc: 0, base: 0 };
+    let next = run_from(&rt, rt.alloc(), &code, &mut words, at, 1, &mut out);
+    assert_eq!(&rt; next.ending, None);
+    assert_eq!(&rt; words, stack(rt.alloc(), BEFORE, &[41, 10, 20])?);
+    Ok(())
+}
+
 #[test]
 fn slots_get_words(rt: HostRuntime) -> Result<(), Fail> {
-    let rows: [(Instr, &[u64]); 12] = [
+    let rows: [(Instr, &[u64]); 15] = [
         (Instr::Zero { a: 1, n: 2 }, &[10, 0, 0]),
         (Instr::Zero { a: 0, n: 7 }, &[0, 0, 0, 0, 0, 0, 0]),
-        (
-            Instr::Same {
-                a: 0,
-                b: 1,
-                c: 3,
-                n: 2,
-            },
-            &[1],
-        ),
-        (
-            Instr::Same {
-                a: 0,
-                b: 1,
-                c: 3,
-                n: 3,
-            },
-            &[0],
-        ),
-        (
-            Instr::Differ {
-                a: 1,
-                b: 1,
-                c: 3,
-                n: 2,
-            },
-            &[10, 0],
-        ),
-        (
-            Instr::Differ {
-                a: 1,
-                b: 1,
-                c: 3,
-                n: 3,
-            },
-            &[10, 1],
-        ),
-        (Instr::ArgumentWords { a: 1, b: 0, n: 2 }, &[10, 41, 42]),
-        (Instr::ArgumentWords { a: 0, b: 1, n: 2 }, &[42, 43]),
+        (moved(MoveEvent::Silent, 1), &[20]),
+        (moved(MoveEvent::Read, 2), &[20, 30]),
+        (moved(MoveEvent::Write, 6), &[20, 30, 20, 30, 0, u64::MAX]),
+        (compared(Sameness::Equal, 2), &[1]),
+        (compared(Sameness::Equal, 3), &[0]),
+        (compared(Sameness::Different, 2), &[0]),
+        (compared(Sameness::Different, 3), &[1]),
+        (taken(1, 0), &[10, 41, 42]),
+        (taken(0, 1), &[42, 43]),
         (Instr::Address { a: 0, b: 2 }, &[LOW + 2]),
         (Instr::Offset { a: 0, b: 1, off: 5 }, &[25]),
         (Instr::Offset { a: 1, b: 1, off: 0 }, &[10, 20]),
@@ -225,15 +249,7 @@ fn steps_end(rt: HostRuntime) -> Result<(), Fail> {
         &[],
         nil,
     )?;
-    check_step(
-        &rt,
-        rt.alloc(),
-        Instr::ArgumentWords { a: 0, b: 1, n: 2 },
-        BEFORE,
-        &[41, 42],
-        &[],
-        wild,
-    )
+    check_step(&rt, rt.alloc(), taken(0, 1), BEFORE, &[41, 42], &[], wild)
 }
 
 fn load(b: u16, off: u16, n: u16) -> Instr {
@@ -241,7 +257,14 @@ fn load(b: u16, off: u16, n: u16) -> Instr {
 }
 
 fn store(a: u16, off: u16, n: u16) -> Instr {
-    Instr::Store { a, off, c: 0, n }
+    let event = StoreEvent::Silent;
+    Instr::Store {
+        event,
+        a,
+        off,
+        c: 0,
+        n,
+    }
 }
 
 /// The words of a touch lie in the stack from the running frame on, or the run ends; nothing is taken of the heap.

@@ -4,7 +4,7 @@
 use crate::back_end::run_on;
 use crate::instructions::{SLOTS, code_with, fits, stack};
 use heap_bump::{HEAP_LOW, Heap, HeapFault};
-use isa::{BinOp, Instr};
+use isa::{BinOp, Instr, StoreEvent};
 use machine::{Ending, Panic, RunState};
 use outside::MemSink;
 use std::alloc::Global;
@@ -25,7 +25,14 @@ fn load(a: u16, b: u16, n: u16) -> Instr {
 }
 
 fn store(a: u16, c: u16) -> Instr {
-    Instr::Store { a, off: 0, c, n: 1 }
+    let event = StoreEvent::Write;
+    Instr::Store {
+        event,
+        a,
+        off: 0,
+        c,
+        n: 1,
+    }
 }
 
 /// The address of `a` in a slot becomes that of the element with the index in slot 0.

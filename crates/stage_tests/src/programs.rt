@@ -89,6 +89,8 @@ fn write_place(place: &Place, out: &mut String) -> Result<(), AllocError> {
             write!(out, " g{number}")?;
             write_steps(steps, out)
         }
+        // The checker gives none through pointers and slices.
+        _ => out.push_str(" ?"),
     }
 }
 
@@ -154,6 +156,8 @@ fn write_expr(e: &Expr, out: &mut String) -> Result<(), AllocError> {
             write_elements(elements, out)?;
             out.push(')')
         }
+        // The checker gives none that makes or follows pointers and slices.
+        _ => out.push_str(" ?"),
     }
 }
 

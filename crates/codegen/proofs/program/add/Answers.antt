@@ -1,4 +1,4 @@
-use Rattle.std.proofs.Common.{◌≡◌, ◌++◌, ◌-◌, ◌∙◌, ap, sym, length, length-append, replicate, arith}
+use Rattle.std.proofs.Common.{rules, ◌≡◌, ◌++◌, ◌-◌, ◌∙◌, ap, sym, length, length-append, replicate, arith}
 use Rattle.typed.specs.View.{program_of}
 use Rattle.placement.specs.Told.{placement_of}
 use Rattle.program_code.specs.Code.{func_code, func_size, slots_of}
@@ -12,8 +12,16 @@ returns-clause-owners c =
     let p = program_of c.args.program.now in let pl = placement_of c.in_ok-frame.frame.homes.placement in let f = func_in c.args.program.now c.args.func.now in
     let old = c.args.parts.now.instrs.items in
     let grown : length c.emit_func.new.code.items ≡ length (old ++ func_code p pl f (length old)) = ap length c.in_ok-emit_func.ensures in
-    let size : c.len.result - c.in_ok-start.start ≡ func_size p f = omega (arith, grown, length-append old (func_code p pl f (length old)), length_func p pl f (length old), c.in_ok-start.ensures, c.len.ensures) in
+    let size : c.in_ok-end.end - c.in_ok-start.start ≡ func_size p f = omega (arith, grown, length-append old (func_code p pl f (length old)), length_func p pl f (length old), c.in_ok-start.ensures, c.in_ok-end.ensures) in
     c.in_ok-own.ensures ∙ ap (λ n. c.args.parts.now.owners.items ++ replicate n c.args.number) size
+
+pub returns-clause-funcs : goal.returns-clause-funcs
+returns-clause-funcs c =
+    let p = program_of c.args.program.now in let pl = placement_of c.in_ok-frame.frame.homes.placement in let f = func_in c.args.program.now c.args.func.now in
+    let old = c.args.parts.now.instrs.items in
+    let grown : length c.emit_func.new.code.items ≡ length (old ++ func_code p pl f (length old)) = ap length c.in_ok-emit_func.ensures in
+    let size : c.in_ok-end.end - c.in_ok-start.start ≡ func_size p f = omega (arith, grown, length-append old (func_code p pl f (length old)), length_func p pl f (length old), c.in_ok-start.ensures, c.in_ok-end.ensures) in
+    rw (← size) (search rules)
 
 pub emit_func-requires-clause-slots : goal.emit_func-requires-clause-slots
 emit_func-requires-clause-slots c =

@@ -11,7 +11,9 @@ use Rattle.typed.specs.declared.expr.Step.{Step}
 use Rattle.typed.specs.View.{elements_of, ex_of, exs_of, exs_of_values, place_of, program_of, steps_of}
 use Rattle.expression_code.specs.Frame.{slots_in}
 use Rattle.expression_code.specs.Temps.{ElementsFitIn, ExsFitIn, Fits, OperandsFit, StepsFitIn}
-use Rattle.program_code.specs.Code.{elements_code, ex_code, gap_code, moves, temp, zeros}
+use Rattle.isa.specs.declared.instr.MoveEvent.TheVariants.{Silent}
+use Rattle.isa.specs.declared.instr.Instr.TheVariants.{Move}
+use Rattle.program_code.specs.Code.{elements_code, ex_code, gap_code, temp, zeros}
 use Rattle.expression_code.proofs.Elements.{literal_emitted, moved_emitted, moved_rest, number_of, ordered_emitted, ordered_rest, value_of, whole_is}
 use Rattle.expression_code.proofs.Steps.{code_inner, fits_index, fits_inner, step_emitted}
 use Rattle.expression_code.proofs.Expressions.{binary_emitted, both_emitted, either_emitted, value_emitted, values_split}
@@ -69,7 +71,7 @@ emit_moved-loop-element-preserved t c =
     let x = c.element-item.result in let l = c.loop-element-test.true in let is = c.element-item.is in let inv = c.loop-element.invariant in
     let from : c.args.h + c.width.result ≡ c.args.h + width type = ap (λ n. c.args.h + n) c.width.ensures in
     let value : c.emit_expr.new.code.items ≡ c.loop-element.code.items ++ ex_code p slots (ex_of (value_of x)) (c.args.h + c.width.result) (length c.loop-element.code.items) = search rules in
-    let put : c.put.new.code.items ≡ c.emit_expr.new.code.items ++ moves (width (part_type type (number_of x))) (temp slots (c.args.h + part_offset type (number_of x))) (temp slots (c.args.h + c.width.result)) ∷ [] = search rules in (
+    let put : c.put.new.code.items ≡ c.emit_expr.new.code.items ++ Move Silent (temp slots (c.args.h + part_offset type (number_of x))) (temp slots (c.args.h + c.width.result)) (width (part_type type (number_of x))) ∷ [] = search rules in (
       moved_emitted p slots type es i x (number_of x) (value_of x) l is _ c.loop-element.code.items _ _ c.args.h _ from inv.0 value put (whole_is x),
       moved_rest p slots type es i c.args.frame.now.sites c.args.h x l is inv.1,
     )

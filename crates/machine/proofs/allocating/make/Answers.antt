@@ -1,4 +1,4 @@
-use Rattle.std.proofs.Common.{rules, ◌+◌, ◌*◌, ◌≤◌, arith}
+use Rattle.std.proofs.Common.{rules, arith}
 use Rattle.machine.specs.Answers.{state_of}
 use Rattle.machine.proofs.Branches.{made}
 use Rattle.machine.proofs.allocating.make.Goals as goal

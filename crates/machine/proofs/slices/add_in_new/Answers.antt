@@ -1,4 +1,4 @@
-use Rattle.std.proofs.Common.{rules, ◌≡◌, ◌+◌, ◌*◌, ◌≤◌, length, drop, refl, arith}
+use Rattle.std.proofs.Common.{rules, ◌+◌, ◌*◌, length, drop, refl, arith}
 use Rattle.machine.specs.Machine.{full_range, State, puts_words, put_at, words_in, header, next_address}
 use Rattle.machine.specs.Answers.{state_of}
 use Rattle.machine.specs.declared.memory.Spot.TheVariants.{InHeap}

@@ -1,4 +1,4 @@
-use Rattle.std.proofs.Common.{rules, ◌+◌}
+use Rattle.std.proofs.Common.{rules}
 use Rattle.isa.specs.declared.instr.Added.TheVariants.{Slots}
 use Rattle.machine.specs.Machine.{full_range}
 use Rattle.machine.specs.Answers.{state_of}

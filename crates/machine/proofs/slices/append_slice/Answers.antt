@@ -1,4 +1,4 @@
-use Rattle.std.proofs.Common.{rules, ◌≤◌, arith}
+use Rattle.std.proofs.Common.{rules, arith}
 use Rattle.machine.specs.Machine.{full_range}
 use Rattle.machine.specs.Answers.{state_of}
 use Rattle.machine.proofs.Branches.{appended_slice}

@@ -1,10 +1,7 @@
-use Rattle.std.proofs.Common.{◌≡◌, ◌-◌, ℕ, List, length, ap, ◌∙◌, arith, drop}
+use Rattle.std.proofs.Common.{◌≡◌, ◌-◌, ℕ, List, length, arith, drop}
 use Rattle.std.proofs.lemmas.List.{length-drop}
-use Rattle.machine.proofs.Words.{copied, copied_one}
+use Rattle.machine.proofs.Words.{copied_one}
 use Rattle.machine.proofs.slots.copy_slots.Goals as goal
-
-pub returns-clause-words : goal.returns-clause-words
-returns-clause-words c = ap (λ l. drop c.args.base l) c.copy_block.ensures.is ∙ copied c.args.words.now.items c.args.base c.args.from c.args.to c.args.count (omega arith)
 
 pub returns-then-count-eq1-clause-words : goal.returns-then-count-eq1-clause-words
 returns-then-count-eq1-clause-words c =

@@ -1,6 +1,5 @@
 use Rattle.std.proofs.Common.{rules, ◌≡◌, ◌+◌, Some, refl, ap, ◌∙◌, arith}
 use Rattle.std.specs.Int.{w64, cast_signed}
-use Rattle.std.proofs.lemmas.Grind.{common_steps}
 use Rattle.outside.proofs.Took.{Took-nothing}
 use Rattle.isa.specs.declared.instr.Instr.{Instr}
 use Rattle.machine.specs.Machine.{full_range, stops, slot, exit_of}
@@ -15,17 +14,8 @@ returns-in-Zero-clause-step g c = nothing_read _ _ _ _ (search rules) (refl, ref
 pub returns-in-Same-clause-step : goal.returns-in-Same-clause-step
 returns-in-Same-clause-step g c = nothing_read _ _ _ _ (search rules) (refl, refl) (λ items reads. let more : reads + 0 ≡ reads = omega arith in rw more (search rules))
 
-pub returns-in-Differ-clause-step : goal.returns-in-Differ-clause-step
-returns-in-Differ-clause-step g c = nothing_read _ _ _ _ (search rules) (refl, refl) (λ items reads. let more : reads + 0 ≡ reads = omega arith in rw more (search rules))
-
 pub returns-in-Un-clause-step : goal.returns-in-Un-clause-step
 returns-in-Un-clause-step g c = nothing_read _ _ _ _ (search rules) (refl, refl) (λ items reads. let more : reads + 0 ≡ reads = omega arith in rw more (search rules))
-
-pub returns-in-Ok-clause-step : goal.returns-in-Ok-clause-step
-returns-in-Ok-clause-step g c = nothing_read _ _ _ _ (search rules) (refl, refl) (λ items reads. let more : reads + 0 ≡ reads = omega arith in rw more (grind (arith, common_steps)))
-
-pub returns-in-Err-clause-step : goal.returns-in-Err-clause-step
-returns-in-Err-clause-step g c = nothing_read _ _ _ _ (search rules) (refl, refl) (λ items reads. let more : reads + 0 ≡ reads = omega arith in rw more (grind (arith, common_steps)))
 
 pub returns-in-Address-clause-step : goal.returns-in-Address-clause-step
 returns-in-Address-clause-step g c = nothing_read _ _ _ _ (search rules) (refl, refl) (λ items reads. let more : reads + 0 ≡ reads = omega arith in rw more (search rules))
@@ -52,7 +42,7 @@ returns-in-Exit-clause-step g c =
     let more : reads + 0 ≡ reads = omega arith in
     let s = state_of (full_range c.args.stack_max) c.args.words.now.items c.args.at reads c.args.heap.now in
     let d = stops s (exit_of (cast_signed w64 (slot s c.in-Exit.a))) in
-    rw (more, c.requires.instr, c.in-Exit.is, c.ended-in-Exit.ensures)
+    rw (more, c.requires.instr, c.in-Exit.is, c.ended.ensures)
     (told_nothing d s (Some c.exit.result) (g.O.Sink.taken c.args.out.now) (g.O.Sink.faults c.args.out.now) (ended_so d s c.exit.result c.exit.ensures.read c.exit.ensures.write c.exit.ensures.memory (search rules))))
 
 pub returns-in-PanicText-clause-step : goal.returns-in-PanicText-clause-step
@@ -73,9 +63,6 @@ pub returns-in-Index-clause-step : goal.returns-in-Index-clause-step
 returns-in-Index-clause-step g c =
     nothing_read _ _ _ _ c.index.ensures.read (refl, refl)
     (λ items reads. let more : reads + 0 ≡ reads = omega arith in rw (more, c.requires.instr, c.in-Index.is) (told_nothing _ _ _ _ _ (c.index.ensures.indexes (full_range c.args.stack_max) reads c.args.heap.now)))
-
-pub returns-in-Born-clause-step : goal.returns-in-Born-clause-step
-returns-in-Born-clause-step g c = nothing_read _ _ _ _ (search rules) (refl, refl) (λ items reads. let more : reads + 0 ≡ reads = omega arith in rw more (search rules))
 
 pub returns-in-SliceIndex-clause-step : goal.returns-in-SliceIndex-clause-step
 returns-in-SliceIndex-clause-step g c =

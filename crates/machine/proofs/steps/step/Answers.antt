@@ -12,8 +12,8 @@ returns-in-Const-clause-step g c = nothing_read _ _ _ _ (search rules) (refl, re
 pub returns-in-Move-clause-step : goal.returns-in-Move-clause-step
 returns-in-Move-clause-step g c = nothing_read _ _ _ _ (search rules) (refl, refl) (λ items reads. let more : reads + 0 ≡ reads = omega arith in rw more (search rules))
 
-pub returns-in-MoveWords-clause-step : goal.returns-in-MoveWords-clause-step
-returns-in-MoveWords-clause-step g c = nothing_read _ _ _ _ (search rules) (refl, refl) (λ items reads. let more : reads + 0 ≡ reads = omega arith in rw more (search rules))
+pub returns-in-Born-clause-step : goal.returns-in-Born-clause-step
+returns-in-Born-clause-step g c = nothing_read _ _ _ _ (search rules) (refl, refl) (λ items reads. let more : reads + 0 ≡ reads = omega arith in rw more (search rules))
 
 pub returns-in-Ok-clause-step : goal.returns-in-Ok-clause-step
 returns-in-Ok-clause-step g c = nothing_read _ _ _ _ (search rules) (refl, refl) (λ items reads. let more : reads + 0 ≡ reads = omega arith in rw more (search rules))
@@ -35,12 +35,6 @@ returns-in-Ok-incoming-clause-step g c = nothing_read _ _ _ _ (search rules) (re
 
 pub returns-in-Err-incoming-clause-step : goal.returns-in-Err-incoming-clause-step
 returns-in-Err-incoming-clause-step g c = nothing_read _ _ _ _ (search rules) (refl, refl) (λ items reads. let more : reads + 0 ≡ reads = omega arith in rw more (grind (arith, common_steps)))
-
-pub returns-in-Ok-incoming-2-clause-step : goal.returns-in-Ok-incoming-2-clause-step
-returns-in-Ok-incoming-2-clause-step g c = nothing_read _ _ _ _ (search rules) (refl, refl) (λ items reads. let more : reads + 0 ≡ reads = omega arith in rw more (grind (arith, common_steps)))
-
-pub returns-in-Err-incoming-2-clause-step : goal.returns-in-Err-incoming-2-clause-step
-returns-in-Err-incoming-2-clause-step g c = nothing_read _ _ _ _ (search rules) (refl, refl) (λ items reads. let more : reads + 0 ≡ reads = omega arith in rw more (grind (arith, common_steps)))
 
 pub returns-in-Call-clause-step : goal.returns-in-Call-clause-step
 returns-in-Call-clause-step g c =
@@ -75,5 +69,5 @@ returns-in-Call-clause-room g c =
 
 pub rare_step_apart-requires-clause-rare : goal.rare_step_apart-requires-clause-rare
 rare_step_apart-requires-clause-rare g c =
-    seldom c.fetch-instr.result.now c.in_default.not-Const c.in_default.not-Move c.in_default.not-MoveWords c.in_default.not-Bin c.in_default.not-Jump c.in_default.not-JumpZero c.in_default.not-Call
-    c.in_default.not-ArgumentWords c.in_default.not-SetResults c.in_default.not-Load c.in_default.not-Store c.in_default.not-Return
+    seldom c.fetch-instr.result.now c.in_default.not-Const c.in_default.not-Move c.in_default.not-Bin c.in_default.not-Jump c.in_default.not-JumpZero c.in_default.not-Call
+    c.in_default.not-Incoming c.in_default.not-Load c.in_default.not-Store c.in_default.not-Born c.in_default.not-Return
