@@ -1,5 +1,5 @@
 -- The machine follows the rounds of a `range` over an array, whose index is held.
-use Rattle.std.proofs.Common.{◌≡◌, ℕ, zero, suc, ◌+◌, ◌-◌, ◌^◌, ◌<◌, ◌≤◌, pos, Bool, true, false, List, ◌∷◌, ◌++◌, length, Some, Ok, refl, sym, ap, ◌∙◌, arith, get_or-set_same}
+use Rattle.std.proofs.Common.{◌≡◌, inl, ℕ, zero, suc, ◌+◌, ◌-◌, ◌^◌, ◌<◌, ◌≤◌, pos, Bool, true, false, List, ◌∷◌, ◌++◌, length, Some, Ok, refl, sym, ap, ◌∙◌, arith, get_or-set_same}
 use Rattle.std.specs.Prelude.{slice_get, slice_index, ◌==◌, int_lt, if◌then◌else◌}
 use Rattle.std.specs.Int.{w64, cast_signed}
 use Rattle.std.proofs.lemmas.Int.{to_z_pos}
@@ -48,7 +48,7 @@ module _ (m : Built) (c : Frame) (calls : List Frame) (x : ℕ) (small : x < 2 ^
   In i env w v s = Stands m v w (during c env scope (indexed_by held i) ∷ calls) s
 
   index_spells : (i : ℕ) (env : Env) (w : World) (v : View) (s : Memory) → In i env w v s → Spells (int (pos i)) (slice_index s.words index_slot)
-  index_spells i env w v s g = last_word m v w (during c env scope held) calls s held ints (int (pos i)) h hh refl g
+  index_spells i env w v s g = last_word m v w (during c env scope held) calls s held ints (int (pos i)) h hh (inl refl) g
 
   -- the temp above it gets a word
   spare : (i y : ℕ) (env : Env) (w : World) (v : View) (s : Memory) → In i env w v s → In i env w v (sets s spare_slot y) × (slice_index (sets s spare_slot y).words spare_slot ≡ y)

@@ -1,5 +1,5 @@
 -- The machine follows a `range` over an array.
-use Rattle.std.proofs.Common.{◌≡◌, inl, inr, ℕ, suc, ◌+◌, ◌-◌, ◌^◌, ◌<◌, ◌≤◌, pos, Bool, true, false, List, [], ◌∷◌, ◌++◌, length, Some, refl, sym, ap, ◌∙◌, subst, arith, append_assoc, append-nil}
+use Rattle.std.proofs.Common.{◌≡◌, inl, inr, ℕ, suc, ◌+◌, ◌-◌, ◌^◌, ◌<◌, ◌≤◌, pos, Bool, true, false, List, [], ◌∷◌, ◌++◌, length, Some, refl, sym, ap, ◌∙◌, subst, arith, append_assoc, append-nil, length-append}
 use Rattle.std.specs.Prelude.{slice_get, slice_index, max}
 use Rattle.typed_syntax.specs.Types.{TypeTree, ints, array_of, width, part_type}
 use Rattle.typed_syntax.specs.Value.{Value, int, IsOf}
@@ -13,10 +13,11 @@ use Rattle.meaning.specs.Store.{value_of, born}
 use Rattle.meaning.specs.Meaning
 use Rattle.meaning.specs.Meaning.{Env, Go, Ways, Calls, Setting, with_home}
 use Rattle.isa.specs.declared.instr.Instr.{Instr}
+use Rattle.isa.specs.declared.instr.MoveEvent.TheVariants.{Silent}
 use Rattle.isa.specs.declared.instr.Instr.TheVariants.{Const, Bin, Jump, Move, Address, Index}
 use Rattle.isa.specs.declared.instr.BinOp.TheVariants as Word
 use Rattle.machine.specs.Machine.{words_at, address_of}
-use Rattle.program_code.specs.Code.{Slots, temp, site_slot, site_words, slots_of, moves, lefts_above, lefts_code, lefts_size, ready_code, lefts_sized, index_round_code, index_round_size, element_code, element_round_code, element_round_size, array_code, ex_code, size, sts_code, sts_size}
+use Rattle.program_code.specs.Code.{Slots, birth_code, temp, site_slot, slots_of, lefts_above, lefts_code, lefts_size, ready_code, lefts_sized, index_round_code, index_round_size, element_code, element_round_code, element_round_size, array_code, ex_code, size, sts_code, sts_size}
 use Rattle.program_code.proofs.Sizes.{length_code, length_ready, length_index_round, length_element_round, lefts_sum, length_sts}
 use Rattle.program_code.proofs.Rooms.{key_alone, address_room, array_room, lefts_room, lefts_others}
 use Rattle.state_relation.specs.Leaves.{leaves}
@@ -25,14 +26,14 @@ use Rattle.state_relation.specs.Relation.{Memory, sets, Kept, word, address, Fra
 use Rattle.state_relation.proofs.Lists.{append_old, append_new}
 use Rattle.state_relation.proofs.Changes.{narrowed}
 use Rattle.state_relation.proofs.Built.{Built}
-use Rattle.state_relation.proofs.Rules.{At, Stands, knowing, later, place_is, given, turned, seen, read_of, stepped, moved_by}
+use Rattle.state_relation.proofs.Rules.{At, Stands, knowing, later, place_is, given, turned, seen, read_of, stepped, moved_one}
 use Rattle.state_relation.proofs.Values.{kept, all_kept, all_kept_one, more_kept, one_more, temp_set, fewer, held_word}
 use Rattle.simulated_code.proofs.Standing.{Standing, front, back, Panics}
 use Rattle.simulated_code.proofs.Moves.{CallsFollow}
-use Rattle.simulated_code.proofs.Temps.{last_stand, last_room}
-use Rattle.simulated_code.proofs.Births.{births_at, site_room, cell_kind}
+use Rattle.simulated_code.proofs.Temps.{last_stand}
+use Rattle.simulated_code.proofs.Births.{births_filled, cell_kind}
 use Rattle.simulated_code.proofs.Reached.{element_leads, site_home, addressed, to_element, fetched}
-use Rattle.simulated_code.proofs.EvaluationsFollow.{ev_follows}
+use Rattle.simulated_code.proofs.EvaluationsFollow.{wide_need, ev_follows}
 use Rattle.simulated_code.proofs.LeftsFollow.{together, left_types, first_landing, land_one, lefts_follow}
 use Rattle.simulated_code.proofs.ReadyFollows.{ready_follow}
 use Rattle.simulated_code.proofs.Scopes.{Scoped, behind_has, behind_new, scoped_behind}
@@ -54,6 +55,10 @@ module _ (m : Built) (around : Setting) (types : around.types ≡ m.program.type
     first_is : part_type own 0 ≡ r
     first_is = (element_leads own r x 0 is (omega arith)).1
 
+    -- the index lies below
+    below : h < at
+    below = omega (arith, one_more held ints (int (pos i)) h 1 hh refl, length-append (indexed_by held i) ready, above)
+
     wide : length base ≡ at + 1
     wide = one_more (indexed_by held i ++ ready) ints (int (pos i)) at 1 above refl
 
@@ -66,7 +71,7 @@ module _ (m : Built) (around : Setting) (types : around.types ≡ m.program.type
     copied s g =
         let old = subst (λ z. Stands m v w (during c env scope z ∷ calls) s) (append_assoc held (kept ints (int (pos i))) ready) g in
         temp_set m v w (during c env scope (indexed_by held i ++ ready)) calls s at (slice_index s.words (temp (slots_of m.program m.placement c.func) h)) ints (int (pos i)) above (omega arith) tt refl
-        (held_word m v w (during c env scope held) calls s held ready ints (int (pos i)) h hh refl old) g
+        (held_word m v w (during c env scope held) calls s held ready ints (int (pos i)) h hh (inl refl) old) g
 
     pub element_follows : (ws : Ways) (pc lo hi b : ℕ) (t : Trace) → Panics ws → Standing m.code c.fn pc (element_code (slots_of m.program m.placement c.func) site x h at)
         → (IsOf r element → At m lo hi b v t (Stands m v w (during c env scope (base ++ kept r element) ∷ calls)) (pc + 1 + 1 + 1 + 1))
@@ -76,7 +81,8 @@ module _ (m : Built) (around : Setting) (types : around.types ≡ m.program.type
         let led = element_leads own r x i is l in let none : slot ≡ slot + 0 = omega arith in
         let there : slice_get (base ++ address r (env site) (i ∷ []) 0 ∷ []) (at + 1) ≡ Some (address r (env site) (i ∷ []) 0) =
         (let z : at + 1 ≡ length base + 0 = omega (arith, wide) in ap (slice_get (base ++ address r (env site) (i ∷ []) 0 ∷ [])) z ∙ append_new base (address r (env site) (i ∷ []) 0 ∷ []) 0) in
-        stepped m {lo = suc (suc (suc lo))} {hi = 1} {G1 = Stands m v w (c1 ∷ calls)} (Move (temp s at) (temp s h)) (λ u. sets u (temp s at) (slice_index u.words (temp s h))) has.0.0 (λ u g. (refl, refl, copied u g))
+        stepped m {lo = suc (suc (suc lo))} {hi = 1} {G1 = Stands m v w (c1 ∷ calls)} (Move Silent (temp s at) (temp s h) 1) (λ u. sets u (temp s at) (slice_index u.words (temp s h))) has.0.0
+        (λ u g. (moved_one m Silent (temp s at) (temp s h) pc u (let used = g.sized.used in omega arith) (let used = g.sized.used in omega (arith, below)), refl, copied u g))
         (knowing m (λ s0 g0.
         stepped m {lo = suc (suc lo)} {hi = 1} {G1 = Stands m v w (hold c1 (base ++ address own (env site) [] 0 ∷ []) ∷ calls)} (Address a slot) (λ u. sets u a (address_of u.hi (length u.words - slot))) has.1.0.0
         (λ u g. (refl, refl, addressed m c1 calls v w site among (at + 1) wide [] own slot u refl none (omega arith) g))
@@ -116,7 +122,7 @@ module _ (m : Built) (around : Setting) (types : around.types ≡ m.program.type
       let next : After m c calls all inner turn lo d then_next = λ env1 w1 v1. seen m _ (go (length w1.store) env1 w1 v1) in
       bodies (inside m c calls ws first then_next) env then_next v w all (h + 1) true inner more q1 behind turn inside_at lo d (omega arith) (one_more held ints (int (pos i)) h 1 hh refl) has fit enough reaches sc
       (leads_inside m c calls first then_next db sub leads (λ t env3 w4 v4. given m (λ y g. fewer m v4 w4 (during c env3 inner held) calls y held (kept ints (int (pos i))) g) (left u env3 w4 v4)) next)
-      (λ goes env3 w4 v4. place_is m (sym ends) (given m (λ y g. narrowed m.program m.placement m.max v4 w4 (hold c all) calls y env3 more inner sub g) (next env3 w4 v4)))
+      (λ goes env3 w4 v4. place_is m (sym ends) (given m (λ y g. narrowed m.program m.placement m.max m.leading v4 w4 (hold c all) calls y env3 more inner sub g) (next env3 w4 v4)))
 
   -- over the indices alone
   pub lengths_follow : (x : ℕ) (key value : Left) (body : Sts) → AllFollowed m c calls around callees n body → Followed m c calls around callees n (range (over_length x) key value body)
@@ -181,18 +187,17 @@ module _ (m : Built) (around : Setting) (types : around.types ≡ m.program.type
   -- over the elements of a copy
   pub copies_follow : (site : ℕ) (e : Ex) (x : ℕ) (key value : Left) (body : Sts) → AllFollowed m c calls around callees n body → Followed m c calls around callees n (range (over_copy site e x) key value body)
   copies_follow site e x key value body bodies ws env k v w held h looped outer scope q out again pc lo b le hh has (r, is, some, small, next_site, top, fe, fl, fb) enough reaches sc leads post =
-      ev_follows m around types inputs callees n cf e (array_of x r) (during c env scope held) calls ws _ v w h pc lo b le hh leads.panics (front m.code c.fn pc ce (move ∷ rounds) has) fe (omega arith) (omega arith) (λ y w1 v1 iv.
+      ev_follows m around types inputs callees n cf e (array_of x r) (during c env scope held) calls ws _ v w h pc lo b le hh leads.panics (front m.code c.fn pc ce (copy ++ rounds) has) fe (omega arith) (omega arith) (λ y w1 v1 iv.
       let t = array_of x r in let n1 = width (site_type m.program site) in let solid = m.solid site in let c0 = during c env scope (held ++ kept t y) in
       let same : n1 ≡ width t = ap width is in let from = sc.from in
       let cell = Meaning.new_cell ws.call site (Meaning.site_type around site) y in let kind = cell_kind m around sites_are site in
       let d = depth m.program m.placement (c0 ∷ calls) - site_slot s site in let home = with_home env site (length w1.store) in
-      turned m {lo1 = suc lo} (omega arith)
-      (births_at m {lo = lo} {hi = 0} {G1 = Stands m (after_stack v1 d) (born w1 cell) (grown c0 site (length w1.store) ∷ calls)} c0 calls v1 w1 site _ (pc + size m.program e) cell move (λ u. words_at u.words (temp s h) n1) has_m.0.0 (omega arith) (omega arith) kind (subst (λ o. IsOf o y) (sym (kind ∙ is)) iv) (λ u g. g)
-      (λ u g. moved_by m n1 (site_slot s site) (temp s h) (pc + size m.program e) u solid (site_room m c0 calls v1 w1 u site (omega arith) (omega arith) g) (last_room m v1 w1 (during c env scope held) calls u held t y h n1 hh same g))
-      (λ u g. subst (λ o. Stand v1.homes u.hi w1 (leaves o) (contents y) (words_at u.words (temp s h) n1)) (sym (kind ∙ is)) (last_stand m v1 w1 (during c env scope held) calls u held t y h n1 hh same g))
+      turned m {lo1 = suc (suc lo)} (omega arith)
+      (births_filled m {lo = lo} {hi = 0} {G1 = Stands m (after_stack v1 d) (born w1 cell) (grown c0 site (length w1.store) ∷ calls)} c0 calls v1 w1 site _ (pc + size m.program e) h cell has_m.0.0 has_m.1.0.0 (omega (arith, same, wide_need m scope t e fe)) (omega arith) (omega arith) kind (subst (λ o. IsOf o y) (sym (kind ∙ is)) iv) (λ u g. g)
+      (λ u g. subst (λ o. Stand m.program m.leading v1.homes u.hi w1 (leaves o) (contents y) (words_at u.words (temp s h) n1)) (sym (kind ∙ is)) (last_stand m v1 w1 (during c env scope held) calls u held t y h n1 hh same g))
       (λ u g k1. k1)
       (given m (λ u g. fewer m (after_stack v1 d) (born w1 cell) (during c home (site ∷ scope) held) calls u held (kept t y) g)
-      (array_follows x small held h hh (omega arith) (site ∷ scope) start behind turn cr cb has_m.1 ends one (Meaning.outside k) home (after_stack v1 d) (born w1 cell) lo b le each (λ u. left u)))))
+      (place_is m there (array_follows x small held h hh (omega arith) (site ∷ scope) start behind turn cr cb has_rounds ends one (Meaning.outside k) home (after_stack v1 d) (born w1 cell) lo b le each (λ u. left u))))))
     where
       s : Slots
       s = slots_of m.program m.placement c.func
@@ -201,7 +206,7 @@ module _ (m : Built) (around : Setting) (types : around.types ≡ m.program.type
       ls = key ∷ value ∷ []
 
       start : ℕ
-      start = pc + size m.program e + 1
+      start = pc + size m.program e + 2
 
       inside_at : ℕ
       inside_at = start + 4 + element_round_size m.program key value
@@ -218,8 +223,8 @@ module _ (m : Built) (around : Setting) (types : around.types ≡ m.program.type
       ce : List Instr
       ce = ex_code m.program s e h pc
 
-      move : Instr
-      move = moves (site_words s site) (site_slot s site) (temp s h)
+      copy : List Instr
+      copy = birth_code s site h
 
       cr : List Instr
       cr = element_round_code m.program s site x key value h (start + 4)
@@ -230,8 +235,14 @@ module _ (m : Built) (around : Setting) (types : around.types ≡ m.program.type
       rounds : List Instr
       rounds = array_code s x h (start + 1) behind cr cb
 
-      has_m : Standing m.code c.fn (pc + size m.program e) (move ∷ rounds)
-      has_m = back m.code c.fn pc (size m.program e) ce (move ∷ rounds) (length_code m.program s e h pc) has
+      has_m : Standing m.code c.fn (pc + size m.program e) (copy ++ rounds)
+      has_m = back m.code c.fn pc (size m.program e) ce (copy ++ rounds) (length_code m.program s e h pc) has
+
+      there : start ≡ pc + size m.program e + 1 + 1
+      there = omega arith
+
+      has_rounds : Standing m.code c.fn start rounds
+      has_rounds = subst (λ p. Standing m.code c.fn p rounds) (sym there) has_m.1.1
 
       length_cr : length cr ≡ element_round_size m.program key value
       length_cr = length_element_round m.program s site x key value h (start + 4)
@@ -244,10 +255,10 @@ module _ (m : Built) (around : Setting) (types : around.types ≡ m.program.type
 
       behind_loop : (u : ℕ) → After m c calls held scope behind lo b (Meaning.outside k u)
       behind_loop u env1 w1 v1 =
-          seen m _ (place_is m (let q1 : pc + (size m.program e + 1 + (4 + element_round_size m.program key value + sts_size m.program (argument_words c.func) c.func.named body + 3)) ≡ behind = omega arith in q1) (post refl env1 w1 v1))
+          seen m _ (place_is m (let q1 : pc + (size m.program e + 2 + (4 + element_round_size m.program key value + sts_size m.program (argument_words c.func) c.func.named body + 3)) ≡ behind = omega arith in q1) (post refl env1 w1 v1))
 
       left : (u : ℕ) → After m c calls held (site ∷ scope) behind lo b (Meaning.outside k u)
-      left u env1 w1 v1 = given m (λ p g. narrowed m.program m.placement m.max v1 w1 (hold c held) calls p env1 (site ∷ scope) scope (λ y i. inr i) g) (behind_loop u env1 w1 v1)
+      left u env1 w1 v1 = given m (λ p g. narrowed m.program m.placement m.max m.leading v1 w1 (hold c held) calls p env1 (site ∷ scope) scope (λ y i. inr i) g) (behind_loop u env1 w1 v1)
 
       scoped : Scoped c.func (scope_behind (site ∷ scope) ls) (q + new_sites ls + 1)
       scoped = record {
@@ -259,13 +270,13 @@ module _ (m : Built) (around : Setting) (types : around.types ≡ m.program.type
         from = let l = sc.from in omega arith;
       }
 
-      each : Rounded x small held h hh (omega arith) (site ∷ scope) start behind turn cr cb has_m.1 ends lo b one
+      each : Rounded x small held h hh (omega arith) (site ∷ scope) start behind turn cr cb has_rounds ends lo b one
       each i u j d db l go env1 w1 v1 =
           let all = indexed_by held i in let w0 = width (part_type (site_type m.program site) 0) in
           let ready = ready_code m.program s ls (h + 1) (start + 4) in let elem = element_code s site x h above in let lands = lefts_code s (1 ∷ w0 ∷ []) ls (h + 1) (above + 1 + w0) above in
           let start1 = start + 4 + lefts_sized m.program ls 0 in
           let counting = Const (temp s (h + 1)) 1 ∷ (Bin Word.Add (temp s h) (temp s h) (temp s (h + 1)) ∷ (Jump (start + 1) ∷ [])) in
-          let has_r = subst (λ p. Standing m.code c.fn p (cr ++ (cb ++ counting))) (let q1 : start + 1 + 1 + 1 + 1 ≡ start + 4 = omega arith in q1) has_m.1.1.1.1.1 in
+          let has_r = subst (λ p. Standing m.code c.fn p (cr ++ (cb ++ counting))) (let q1 : start + 1 + 1 + 1 + 1 ≡ start + 4 = omega arith in q1) has_rounds.1.1.1.1 in
           let has_b = back m.code c.fn (start + 4) (element_round_size m.program key value) cr (cb ++ counting) length_cr has_r in
           let has_cr = front m.code c.fn (start + 4) cr (cb ++ counting) has_r in
           let has_e = back m.code c.fn (start + 4) (lefts_sized m.program ls 0) ready (elem ++ lands) (length_ready m.program s ls (h + 1) (start + 4)) has_cr in

@@ -184,25 +184,25 @@ module _ (m : Built) where
         subst (λ ks. Stands m v w (hold c ks ∷ calls) s) (append_assoc held (take (part_offset t i) (kept t x)) (kept (part_type t i) y) ∙ ap (λ ks. held ++ ks) (kept_through t x y i l ix iy)) g
 
     -- zeros after it
-    pub up_to_zeros : (h n more : ℕ) (s : Memory) → length held ≡ h → n + more ≤ width t → h + width t ≤ temps_of m.program m.placement c.func → ((j : ℕ) → n ≤ j → j < n + more → StandsFor v.homes s.hi w (leaf t j) (get_or (contents x) j nothing) 0)
+    pub up_to_zeros : (h n more : ℕ) (s : Memory) → length held ≡ h → n + more ≤ width t → h + width t ≤ temps_of m.program m.placement c.func → ((j : ℕ) → n ≤ j → j < n + more → StandsFor m.program m.leading v.homes s.hi w (leaf t j) (get_or (contents x) j nothing) 0)
         → UpTo n s → UpTo (n + more) (puts s (temp (slots_of m.program m.placement c.func) (h + n)) (replicate more 0))
     up_to_zeros h n more s hh le room zeros g =
         subst (λ ks. Stands m v w (hold c ks ∷ calls) (puts s (temp (slots_of m.program m.placement c.func) (h + n)) (replicate more 0))) (append_assoc held (take n (kept t x)) (take more (drop n (kept t x))) ∙ ap (λ ks. held ++ ks) (sym (take-add n more (kept t x))))
-        (good_more m.program m.placement m.max v w (hold c (held ++ take n (kept t x))) calls s (h + n) (take more (drop n (kept t x))) (replicate more 0) (omega (arith, up_to_wide n (omega arith), hh)) (length-replicate more 0 ∙ sym count) (omega (arith, count)) each g)
+        (good_more m.program m.placement m.max m.leading v w (hold c (held ++ take n (kept t x))) calls s (h + n) (take more (drop n (kept t x))) (replicate more 0) (omega (arith, up_to_wide n (omega arith), hh)) (length-replicate more 0 ∙ sym count) (omega (arith, count)) each g)
       where
         count : length (take more (drop n (kept t x))) ≡ more
         count = length-take-le more (drop n (kept t x)) (omega (arith, kept_length t x, length-drop n (kept t x)))
 
-        each : (i : ℕ) (k : Kept) → slice_get (take more (drop n (kept t x))) i ≡ Some k → StandsKept v.homes s.hi w k (slice_index (replicate more 0) i)
+        each : (i : ℕ) (k : Kept) → slice_get (take more (drop n (kept t x))) i ≡ Some k → StandsKept m.program m.leading v.homes s.hi w k (slice_index (replicate more 0) i)
         each i k e =
             let lt : i < more = subst (λ j. i < j) count (slice_get_within (take more (drop n (kept t x))) i k e) in
             let there : word (leaf t (n + i)) (get_or (contents x) (n + i) nothing) ≡ k = sym (get_or-take more (drop n (kept t x)) i spent lt ∙ get_or-drop n (kept t x) i spent ∙ kept_at t x (n + i) (omega arith)) ∙ get_is (take more (drop n (kept t x))) i k spent e in
-            subst (λ a. StandsKept v.homes s.hi w a (slice_index (replicate more 0) i)) there
-            (subst (λ u. StandsFor v.homes s.hi w (leaf t (n + i)) (get_or (contents x) (n + i) nothing) u) (sym (all_zero more i)) (zeros (n + i) (omega arith) (omega arith)))
+            subst (λ a. StandsKept m.program m.leading v.homes s.hi w a (slice_index (replicate more 0) i)) there
+            (subst (λ u. StandsFor m.program m.leading v.homes s.hi w (leaf t (n + i)) (get_or (contents x) (n + i) nothing) u) (sym (all_zero more i)) (zeros (n + i) (omega arith) (omega arith)))
 
   -- the words between a part and the next element are zeroed again
   pub gap_follows : (c : Frame) (calls : List Frame) (v : View) (w : World) (held : List Kept) (t : TypeTree) (x : Value) (h from to pc lo b : ℕ) (rest : Trace) → length held ≡ h → from ≤ to → to ≤ width t → h + width t ≤ temps_of m.program m.placement c.func
-      → ((j : ℕ) (hi : ℕ) → from ≤ j → j < to → StandsFor v.homes hi w (leaf t j) (get_or (contents x) j nothing) 0) → Standing m.code c.fn pc (gap_code (to - from) (temp (slots_of m.program m.placement c.func) (h + from)))
+      → ((j : ℕ) (hi : ℕ) → from ≤ j → j < to → StandsFor m.program m.leading v.homes hi w (leaf t j) (get_or (contents x) j nothing) 0) → Standing m.code c.fn pc (gap_code (to - from) (temp (slots_of m.program m.placement c.func) (h + from)))
       → At m lo 0 b v rest (UpTo c calls v w held t x to) (pc + gap_size (to - from)) → At m (suc lo) 0 b v rest (UpTo c calls v w held t x from) pc
   gap_follows c calls v w held t x h from to pc lo b rest hh le inside room zeros has post = by (to - from) refl has post
     where
@@ -223,7 +223,7 @@ module _ (m : Built) where
 
   -- a part of a value in temps gets another value
   module _ (c : Frame) (calls : List Frame) (v : View) (w : World) (s : Memory) (xs : List ℕ) (held : List Kept) (h : ℕ) (t : TypeTree) (x y : Value) (i : ℕ) (hh : length held ≡ h) (l : i < part_count t) (ix : IsOf t x) (iy : IsOf (part_type t i) y)
-      (stand : Stand v.homes s.hi w (leaves (part_type t i)) (contents y) xs) (g : Stands m v w (hold c (held ++ kept t x) ∷ calls) s) where
+      (stand : Stand m.program m.leading v.homes s.hi w (leaves (part_type t i)) (contents y) xs) (g : Stands m v w (hold c (held ++ kept t x) ∷ calls) s) where
     abbrev new : Value
     new = with_part x i y
 
@@ -249,37 +249,37 @@ module _ (m : Built) where
     ends = part_within t i l
 
     below : Stands m v w (hold c held ∷ calls) (puts s slot xs)
-    below = let r = room in let e = ends in good_free m.program m.placement m.max v w (hold c held) calls s slot xs (inl (omega arith, omega (arith, many))) (fewer m v w c calls s held (kept t x) g)
+    below = let r = room in let e = ends in good_free m.program m.placement m.max m.leading v w (hold c held) calls s slot xs (inl (omega arith, omega (arith, many))) (fewer m v w c calls s held (kept t x) g)
 
     -- a word that stands where the value is
-    now : (j : ℕ) → j < width t → StandsFor v.homes s.hi w (leaf t j) (get_or (contents new) j nothing) (word_at (put_words s.words slot xs) (deep - (outgoing_of m.program c.func + (h + j))))
+    now : (j : ℕ) → j < width t → StandsFor m.program m.leading v.homes s.hi w (leaf t j) (get_or (contents new) j nothing) (word_at (put_words s.words slot xs) (deep - (outgoing_of m.program c.func + (h + j))))
     now j lt = elim (less_or j from) [ inl p ↦ old (inl p) (sym (before_part t x y i l ix iy j p)) | inr p ↦ elim (less_or j (from + wide)) [ inr q ↦ old (inr q) (sym (behind_part t x y i l ix iy j q)) | inl q ↦ inner p q ] ]
       where
-        old : (j < from) ⊎ (from + wide ≤ j) → get_or (contents x) j nothing ≡ get_or (contents new) j nothing → StandsFor v.homes s.hi w (leaf t j) (get_or (contents new) j nothing) (word_at (put_words s.words slot xs) (deep - (outgoing_of m.program c.func + (h + j))))
+        old : (j < from) ⊎ (from + wide ≤ j) → get_or (contents x) j nothing ≡ get_or (contents new) j nothing → StandsFor m.program m.leading v.homes s.hi w (leaf t j) (get_or (contents new) j nothing) (word_at (put_words s.words slot xs) (deep - (outgoing_of m.program c.func + (h + j))))
         old out e =
             let u = g.sized.used in let r = room in let n = ends in
             let there : slice_get (held ++ kept t x) (h + j) ≡ Some (word (leaf t j) (get_or (contents x) j nothing)) = ap (λ k. slice_get (held ++ kept t x) (k + j)) (sym hh) ∙ append_new held (kept t x) j ∙ keeps_at (leaves t) (contents x) j (omega (arith, leaves_length t)) in
-            stands_same v.homes s.hi w (leaf t j) (leaf t j) (get_or (contents x) j nothing) (get_or (contents new) j nothing) (word_at s.words (deep - (outgoing_of m.program c.func + (h + j)))) (word_at (put_words s.words slot xs) (deep - (outgoing_of m.program c.func + (h + j)))) refl e
+            stands_same m.program m.leading v.homes s.hi w (leaf t j) (leaf t j) (get_or (contents x) j nothing) (get_or (contents new) j nothing) (word_at s.words (deep - (outgoing_of m.program c.func + (h + j)))) (word_at (put_words s.words slot xs) (deep - (outgoing_of m.program c.func + (h + j)))) refl e
             (sym (put_other s.words slot xs (deep - (outgoing_of m.program c.func + (h + j))) (omega (arith, many)) (elim out [ inl p ↦ inl (omega arith) | inr p ↦ inr (omega (arith, many)) ])))
             (g.framed.kept (deep - (outgoing_of m.program c.func + (h + j))) (word (leaf t j) (get_or (contents x) j nothing)) (inl (h + j, omega arith, refl, there)))
 
-        inner : from ≤ j → j < from + wide → StandsFor v.homes s.hi w (leaf t j) (get_or (contents new) j nothing) (word_at (put_words s.words slot xs) (deep - (outgoing_of m.program c.func + (h + j))))
+        inner : from ≤ j → j < from + wide → StandsFor m.program m.leading v.homes s.hi w (leaf t j) (get_or (contents new) j nothing) (word_at (put_words s.words slot xs) (deep - (outgoing_of m.program c.func + (h + j))))
         inner p q =
             let u = g.sized.used in let r = room in let n = ends in let k : ℕ = j - from in let kl : k < wide = omega arith in let kj : from + k ≡ j = omega arith in
-            stands_same v.homes s.hi w (leaf (part_type t i) k) (leaf t j) (get_or (contents y) k nothing) (get_or (contents new) j nothing) (slice_index xs k) (word_at (put_words s.words slot xs) (deep - (outgoing_of m.program c.func + (h + j))))
+            stands_same m.program m.leading v.homes s.hi w (leaf (part_type t i) k) (leaf t j) (get_or (contents y) k nothing) (get_or (contents new) j nothing) (slice_index xs k) (word_at (put_words s.words slot xs) (deep - (outgoing_of m.program c.func + (h + j))))
             (sym (part_word t i k l kl) ∙ ap (leaf t) kj) (sym (inside_part t x y i l ix iy k kl) ∙ ap (λ z. get_or (contents new) z nothing) kj)
             (sym (put_same s.words slot xs k (deep - (outgoing_of m.program c.func + (h + j))) (omega (arith, many)) (omega (arith, many)) (omega arith))) (stand.each k (omega (arith, leaves_length (part_type t i))))
 
     pub part_put : Stands m v w (hold c (held ++ kept t new) ∷ calls) (puts s slot xs)
-    part_put = good_kept m.program m.placement m.max v w (hold c held) calls (puts s slot xs) (held ++ kept t new) (let r = room in omega (arith, length-append held (kept t new), kept_length t new)) each below
+    part_put = good_kept m.program m.placement m.max m.leading v w (hold c held) calls (puts s slot xs) (held ++ kept t new) (let r = room in omega (arith, length-append held (kept t new), kept_length t new)) each below
       where
-        each : (j : ℕ) (k : Kept) → j < temps_of m.program m.placement c.func → slice_get (held ++ kept t new) j ≡ Some k → StandsKept v.homes s.hi w k (word_at (put_words s.words slot xs) (deep - (outgoing_of m.program c.func + j)))
+        each : (j : ℕ) (k : Kept) → j < temps_of m.program m.placement c.func → slice_get (held ++ kept t new) j ≡ Some k → StandsKept m.program m.leading v.homes s.hi w k (word_at (put_words s.words slot xs) (deep - (outgoing_of m.program c.func + j)))
         each j k lt e = elim (append_cases held (kept t new) k j e) [
           | inl o ↦ below.framed.kept (deep - (outgoing_of m.program c.func + j)) k (inl (j, lt, refl, o))
           | inr (n, q, f) ↦ (
               let a = keeps_get (leaves t) (contents new) n k f in let nl : n < width t = subst (λ z. n < z) (leaves_length t) a.0 in let there : h + n ≡ j = omega (arith, q, hh) in
-              subst (λ z. StandsKept v.homes s.hi w k (word_at (put_words s.words slot xs) (deep - (outgoing_of m.program c.func + z)))) there
-              (subst (λ z. StandsKept v.homes s.hi w z (word_at (put_words s.words slot xs) (deep - (outgoing_of m.program c.func + (h + n))))) a.1 (now n nl))
+              subst (λ z. StandsKept m.program m.leading v.homes s.hi w k (word_at (put_words s.words slot xs) (deep - (outgoing_of m.program c.func + z)))) there
+              (subst (λ z. StandsKept m.program m.leading v.homes s.hi w z (word_at (put_words s.words slot xs) (deep - (outgoing_of m.program c.func + (h + n))))) a.1 (now n nl))
               )
         ]
 
@@ -288,7 +288,7 @@ module _ (m : Built) where
     pub part_room : temp (slots_of m.program m.placement c.func) (h + part_offset t i) + width (part_type t i) ≤ length s.words
     part_room = let r = g.homed.owned.0.room in let u = g.sized.used in let e = part_within t i l in omega (arith, length-append held (kept t x), kept_length t x)
 
-    pub part_stand : Stand v.homes s.hi w (leaves (part_type t i)) (contents (part x i)) (words_at s.words (temp (slots_of m.program m.placement c.func) (h + part_offset t i)) (width (part_type t i)))
+    pub part_stand : Stand m.program m.leading v.homes s.hi w (leaves (part_type t i)) (contents (part x i)) (words_at s.words (temp (slots_of m.program m.placement c.func) (h + part_offset t i)) (width (part_type t i)))
     part_stand =
         let n = width (part_type t i) in let from = temp (slots_of m.program m.placement c.func) (h + part_offset t i) in let e = part_within t i l in
         record {
@@ -297,7 +297,7 @@ module _ (m : Built) where
               let lt : j < n = subst (λ z. j < z) (leaves_length (part_type t i)) lt1 in let at = part_offset t i + j in
               let there : slice_get (held ++ kept t x) (h + at) ≡ Some (word (leaf t at) (get_or (contents x) at nothing)) = ap (λ k. slice_get (held ++ kept t x) (k + at)) (sym hh) ∙ append_new held (kept t x) at ∙ keeps_at (leaves t) (contents x) at (omega (arith, leaves_length t)) in
               let q : temp (slots_of m.program m.placement c.func) (h + at) ≡ from + j = omega arith in
-              stands_same v.homes s.hi w (leaf t at) (leaf (part_type t i) j) (get_or (contents x) at nothing) (get_or (contents (part x i)) j nothing) (slice_index s.words (temp (slots_of m.program m.placement c.func) (h + at))) (slice_index (words_at s.words from n) j)
+              stands_same m.program m.leading v.homes s.hi w (leaf t at) (leaf (part_type t i) j) (get_or (contents x) at nothing) (get_or (contents (part x i)) j nothing) (slice_index s.words (temp (slots_of m.program m.placement c.func) (h + at))) (slice_index (words_at s.words from n) j)
               (part_word t i j l lt) (sym (part_words t x i j l ix lt)) (ap (slice_index s.words) q ∙ sym (read_index s.words from n j lt))
-              (kept_word m.program m.placement m.max v w (hold c (held ++ kept t x)) calls s (h + at) (word (leaf t at) (get_or (contents x) at nothing)) there g);
+              (kept_word m.program m.placement m.max m.leading v w (hold c (held ++ kept t x)) calls s (h + at) (word (leaf t at) (get_or (contents x) at nothing)) there g);
         }

@@ -1,8 +1,8 @@
 -- The machine follows an evaluation.
-use Rattle.std.proofs.Common.{◌≡◌, ℕ, zero, suc, ◌+◌, ◌<◌, ◌≤◌, Bool, true, false, List, [], ◌∷◌, ◌++◌, length, Some, Option, refl, sym, ap, ◌∙◌, subst, arith, append_assoc, append-nil, get_or}
+use Rattle.std.proofs.Common.{◌≡◌, inr, ℕ, zero, suc, ◌+◌, ◌<◌, ◌≤◌, Bool, true, false, List, [], ◌∷◌, ◌++◌, length, Some, Option, refl, sym, ap, ◌∙◌, subst, arith, append_assoc, append-nil, get_or}
 use Rattle.std.specs.Prelude.{slice_get, slice_index, take, replicate, max, None, IfSome, FitsSigned}
 use Rattle.std.specs.Int.{w64}
-use Rattle.typed_syntax.specs.Value.{Value, int, bool, IsOf, composite, zero_of}
+use Rattle.typed_syntax.specs.Value.{Value, int, bool, IsOf, zero_of}
 use Rattle.typed_syntax.specs.Syntax.{Pl, Steps, local, global, here as itself, inner, at_index, type_in, type_named, site_type, global_type, Ex, Exs, Piece, Func, Program, constant, read, unary, binary, logical_and, logical_or, call, part_of, literal, Elements, no_elements, element, none, more, results, read_int, text, shown, wide, ascend_from, ascend, words_before, words_through, gap_behind}
 use Rattle.value_laws.proofs.Parts.{words_count, count_of, part_is, with_part_is}
 use Rattle.typed_syntax.specs.Form.{IsPlain, AreOf, IsWord, PlFits, StepsLead, ExFits, ExsFit, ElementsFit, PiecesFit}
@@ -11,10 +11,11 @@ use Rattle.meaning.specs.Trace.{World, Asked, Turn, Note}
 use Rattle.meaning.specs.Operators.{unary_of}
 use Rattle.meaning.specs.Meaning
 use Rattle.meaning.specs.Meaning.{Go, Then, Ways, Calls, Setting, Item, Aim, Step, fixed, worked, only_value}
-use Rattle.isa.specs.declared.instr.Instr.TheVariants.{Const, Jump, JumpZero, ReadInt}
+use Rattle.isa.specs.declared.instr.MoveEvent.TheVariants.{Silent}
+use Rattle.isa.specs.declared.instr.Instr.TheVariants.{Const, Move, Jump, JumpZero, ReadInt}
 use Rattle.machine.specs.Machine as Machine
 use Rattle.machine.specs.Machine.{words_at, item_words}
-use Rattle.program_code.specs.Code.{temp, slots_of, binary_code, unary_code, place_above, steps_above, address_code, address_size, fetch_code, place_code, place_size, steps_code, steps_size, moves, gap_code, gap_size, ex_code, exs_code, elements_code, pieces_code, size, exs_size, elements_size, pieces_size, call_code, call_size, word_of}
+use Rattle.program_code.specs.Code.{temp, slots_of, binary_code, unary_code, place_above, steps_above, address_code, address_size, fetch_code, place_code, place_size, steps_code, steps_size, gap_code, gap_size, ex_code, exs_code, elements_code, pieces_code, size, exs_size, elements_size, pieces_size, call_code, call_size, word_of}
 use Rattle.program_code.proofs.Sizes.{length_gap, length_address, length_place, place_sum, length_code, length_exs}
 use Rattle.program_code.proofs.Wide.{AllPlain, place_is_of, plain_one, takes_gives, takes_some, takes_one, wide_is}
 use Rattle.typed_syntax.specs.Types.{TypeTree, bools, ints, width, part_type, part_offset}
@@ -23,7 +24,7 @@ use Rattle.typed_syntax.specs.Words.{contents}
 use Rattle.value_laws.proofs.Zeros.{zero_is}
 use Rattle.state_relation.specs.Leaves.{all_leaves, leaf}
 use Rattle.state_relation.specs.Views.{Place, View}
-use Rattle.state_relation.specs.Relation.{Memory, puts, sets, Kept, Frame, hold, StandsFor, contents_of, nothing}
+use Rattle.state_relation.specs.Relation.{Memory, puts, sets, Kept, Frame, hold, Leading, StandsFor, contents_of, nothing}
 use Rattle.state_relation.proofs.Words.{Holds, Spells, HoldIn, hold_stand, all_fit, zero_stands, zero_behind}
 use Rattle.state_relation.proofs.Changes.{good_read}
 use Rattle.state_relation.proofs.Built.{Built}
@@ -32,13 +33,13 @@ use Rattle.state_relation.proofs.Values.{kept, all_kept, all_kept_one, one_more,
 use Rattle.simulated_code.proofs.Standing.{Standing, front, back, Panics}
 use Rattle.simulated_code.proofs.Numbers.{agrees_one, unary_word, number_stands}
 use Rattle.simulated_code.proofs.Reached.{Operands, steps_of, steps_with, aimed, index_types, located, place_held, settled_follow, fetched}
-use Rattle.simulated_code.proofs.Temps.{last_word, last_stand, last_hold, last_room, words_moved, words_zeroed, held_there}
+use Rattle.simulated_code.proofs.Temps.{last_word, last_stand, words_moved, words_zeroed, held_there}
 use Rattle.simulated_code.proofs.Moves.{CallsFollow, call_end}
 use Rattle.simulated_code.proofs.OperatorsFollow.{operates_one}
 use Rattle.simulated_code.proofs.EqualityFollows.{both_operate}
 use Rattle.simulated_code.proofs.ConditionsFollow.{goes_on, goes_to}
 use Rattle.simulated_code.proofs.LinesFollow.{piece_types, texts}
-use Rattle.simulated_code.proofs.Composites.{part_within, behind_part, in_order, gap_fits, before_fits, UpTo, up_to_wide, up_to_end, up_to_front, up_to_part, part_put, part_room, part_stand, gap_follows}
+use Rattle.simulated_code.proofs.Composites.{part_within, behind_part, in_order, gap_fits, before_fits, UpTo, up_to_wide, up_to_end, up_to_front, up_to_part, part_put, part_stand, gap_follows}
 
 -- the one value of a call with one result
 single : (t : TypeTree) (rs : List Value) → AreOf (t ∷ []) rs → rs ≡ only_value rs ∷ []
@@ -53,12 +54,12 @@ only_of t (r ∷ rs) are = are.0
 pub word_spells : (v : Value) → IsWord v → Spells v (word_of v)
 word_spells (int z) is = number_stands z is
 word_spells (bool x) is = refl
-word_spells (composite vs) is = absurd is
+word_spells v is = absurd is
 
 pub word_one : (v : Value) → IsWord v → length (contents v) ≡ 1
 word_one (int z) is = refl
 word_one (bool x) is = refl
-word_one (composite vs) is = absurd is
+word_one v is = absurd is
 
 -- what `readInt` gives
 pub asked_fits : (p : Program) (scope : List ℕ) (ts : List TypeTree) → ExsFit p scope ts read_int → ts ≡ ints ∷ bools ∷ []
@@ -90,8 +91,8 @@ item_holds : (item : Item) → IfSome item (FitsSigned w64) → HoldIn (contents
 item_holds item fits = record { long = item_long item ∙ sym (item_two item); each = λ j l. item_each item fits j (omega (arith, item_two item)) }
 
 -- from one part of a value on each word stands for its content as 0, wherever homes are
-abbrev pub Zeros : TypeTree → Value → ℕ → Type 0
-Zeros t x from = (homes : ℕ → Option Place) (hi : ℕ) (w : World) (j : ℕ) → from ≤ j → j < width t → StandsFor homes hi w (leaf t j) (get_or (contents x) j nothing) 0
+abbrev pub Zeros : Program → Leading → TypeTree → Value → ℕ → Type 0
+Zeros p led t x from = (homes : ℕ → Option Place) (hi : ℕ) (w : World) (j : ℕ) → from ≤ j → j < width t → StandsFor p led homes hi w (leaf t j) (get_or (contents x) j nothing) 0
 
 -- the last call of some expressions
 pub last_fits : (p : Program) (scope : List ℕ) (ts : List TypeTree) (f : ℕ) (es : Exs) → ExsFit p scope ts (results f es) → (func : Func) × (slice_get p.funcs f ≡ Some func) × (func.results ≡ ts) × ExsFit p scope func.param_types es
@@ -103,7 +104,7 @@ module _ (m : Built) where
   pub wide_need : (scope : List ℕ) (t : TypeTree) (e : Ex) → ExFits m.program scope t e → width t ≤ need m.program e
   wide_need scope t (constant (int z)) fit = let l = wide_is m.program scope t (constant (int z)) fit in omega (arith, l)
   wide_need scope t (constant (bool b)) fit = let l = wide_is m.program scope t (constant (bool b)) fit in omega (arith, l)
-  wide_need scope t (constant (composite vs)) fit = absurd fit.1
+  wide_need scope t (constant v) fit = absurd fit.1
   wide_need scope t (read p) fit = let e = ap width (place_is_of m.program scope t p fit) in omega arith
   wide_need scope t (unary op e) fit = wide_need scope t e fit.1
   wide_need scope t (binary at op a b) fit =
@@ -113,6 +114,7 @@ module _ (m : Built) where
   wide_need scope t (call f es) fit = let r = wide_is m.program scope t (call f es) fit in omega (arith, r)
   wide_need scope t (part_of n i e) fit = let s = type_named m.program n in let l = wide_need scope s e fit.3 in let e = ap width fit.1 in let r = part_within s i fit.0 in omega arith
   wide_need scope t (literal n es) fit = let e = ap width fit.0 in omega arith
+  wide_need scope t e fit = absurd fit
 
   pub some_need : (scope : List ℕ) (t : TypeTree) (e : Ex) → 0 < width t → ExFits m.program scope t e → 0 < need m.program e
   some_need scope t e some fit = let l = wide_need scope t e fit in omega arith
@@ -133,10 +135,10 @@ module _ (m : Built) where
         → At m lo 0 b v (Turn (Meaning.branch x g (Meaning.give ws whole k (bool false)) w)) (Stands m v w (hold c (c.held ++ kept bools x) ∷ calls)) pc
     both_end whole (bool true) g c calls ws k v w h goal pc lo b here hh is on off =
         let a = temp (slots_of m.program m.placement c.func) h in
-        turned m {lo1 = suc lo} (omega arith) (goes_on m {lo = lo} a goal here (λ u s. (last_word m v w c calls u c.held bools (bool true) h hh refl s, fewer m v w c calls u c.held (kept bools (bool true)) s)) on)
+        turned m {lo1 = suc lo} (omega arith) (goes_on m {lo = lo} a goal here (λ u s. (last_word m v w c calls u c.held bools (bool true) h hh (inr refl) s, fewer m v w c calls u c.held (kept bools (bool true)) s)) on)
     both_end whole (bool false) g c calls ws k v w h goal pc lo b here hh is on off =
         let a = temp (slots_of m.program m.placement c.func) h in
-        turned m {lo1 = suc (suc lo)} (omega arith) (goes_to m {lo = suc lo} a goal here (λ u s. (last_word m v w c calls u c.held bools (bool false) h hh refl s, s)) (seen m _ off))
+        turned m {lo1 = suc (suc lo)} (omega arith) (goes_to m {lo = suc lo} a goal here (λ u s. (last_word m v w c calls u c.held bools (bool false) h hh (inr refl) s, s)) (seen m _ off))
     both_end whole x g c calls ws k v w h goal pc lo b here hh is on off = absurd is
 
     either_end : (whole : Ex) (x : Value) (g : Go) (c : Frame) (calls : List Frame) (ws : Ways) (k : Then Value) (v : View) (w : World) (h goal end pc lo b : ℕ) → slice_get m.code.instrs pc ≡ Some (JumpZero (temp (slots_of m.program m.placement c.func) h) goal) → slice_get m.code.instrs (pc + 1) ≡ Some (Jump end)
@@ -144,10 +146,10 @@ module _ (m : Built) where
         → At m lo 0 b v (Turn (Meaning.branch x (Meaning.give ws whole k (bool true)) g w)) (Stands m v w (hold c (c.held ++ kept bools x) ∷ calls)) pc
     either_end whole (bool false) g c calls ws k v w h goal end pc lo b here jump hh is off on =
         let a = temp (slots_of m.program m.placement c.func) h in
-        turned m {lo1 = suc lo} (omega arith) (goes_to m {lo = lo} a goal here (λ u s. (last_word m v w c calls u c.held bools (bool false) h hh refl s, fewer m v w c calls u c.held (kept bools (bool false)) s)) off)
+        turned m {lo1 = suc lo} (omega arith) (goes_to m {lo = lo} a goal here (λ u s. (last_word m v w c calls u c.held bools (bool false) h hh (inr refl) s, fewer m v w c calls u c.held (kept bools (bool false)) s)) off)
     either_end whole (bool true) g c calls ws k v w h goal end pc lo b here jump hh is off on =
         let a = temp (slots_of m.program m.placement c.func) h in
-        turned m {lo1 = suc (suc (suc lo))} (omega arith) (goes_on m {lo = suc (suc lo)} {hi = 1} a goal here (λ u s. (last_word m v w c calls u c.held bools (bool true) h hh refl s, s))
+        turned m {lo1 = suc (suc (suc lo))} (omega arith) (goes_on m {lo = suc (suc lo)} {hi = 1} a goal here (λ u s. (last_word m v w c calls u c.held bools (bool true) h hh (inr refl) s, s))
         (stepped m {lo = suc lo} {hi = 0} (Jump end) (λ u. u) jump (λ u s. (refl, refl, s)) (seen m _ on)))
     either_end whole x g c calls ws k v w h goal end pc lo b here jump hh is off on = absurd is
 
@@ -164,8 +166,8 @@ module _ (m : Built) where
           ap (λ n. Machine.reads_item (record (state_of m pc s) { reads = n }) a (m.items n)) g.sized.asked,
           refl,
           values_put m v w1 c calls (record s { reads = suc w.reads }) h (ints ∷ bools ∷ []) (Meaning.item_values item) (item_words item) hh room
-              (hold_stand v.homes s.hi w1 (all_leaves (ints ∷ bools ∷ [])) (contents_of (Meaning.item_values item)) (item_words item) (all_fit (ints ∷ bools ∷ []) (Meaning.item_values item) (item_types item)) (item_holds item (m.numbers w.reads)))
-              (good_read m.program m.placement m.max v w (c ∷ calls) s (suc w.reads) g),
+              (hold_stand m.program m.leading v.homes s.hi w1 (all_leaves (ints ∷ bools ∷ [])) (contents_of (Meaning.item_values item)) (item_words item) (all_fit (ints ∷ bools ∷ []) (Meaning.item_values item) (item_types item)) (item_holds item (m.numbers w.reads)))
+              (good_read m.program m.placement m.max m.leading v w (c ∷ calls) s (suc w.reads) g),
         )) (seen m _ (post (Meaning.item_values item) w1 (item_types item)))))
 
     mutual
@@ -200,7 +202,7 @@ module _ (m : Built) where
           let has_i = back m.code c.fn pc na ca (i ∷ []) (length_code m.program s a h pc) has in
           let plain = takes_one o t fit.0 in let one = plain_one t plain in let some = plain_need c.scope t a plain fit.1 in
           ev_pays a t c calls ws _ v w h pc lo b le hh stops (front m.code c.fn pc ca (i ∷ []) has) fit.1 enough reaches (λ x w1 v1 is. spared m (
-          let agree = λ (u : Memory) (g : Stands m v1 w1 (hold c (c.held ++ kept t x) ∷ calls) u). agrees_one o t x (slice_index u.words (temp s h)) fit.0 is (last_word m v1 w1 c calls u c.held t x h hh one g) in
+          let agree = λ (u : Memory) (g : Stands m v1 w1 (hold c (c.held ++ kept t x) ∷ calls) u). agrees_one o t x (slice_index u.words (temp s h)) fit.0 is (last_word m v1 w1 c calls u c.held t x h hh plain g) in
           knowing m (λ u0 g0.
           turned m {lo1 = suc (suc lo)} (omega arith) (seen m _ (operates_one m {lo = suc lo} {hi = 0} o (temp s h) has_i.0.0
           (λ u g. let r = agree u g in temp_set m v1 w1 c calls u h (unary_word o (slice_index u.words (temp s h))) t (unary_of o x) hh (omega arith) r.0 one r.1 (fewer m v1 w1 c calls u c.held (kept t x) g))
@@ -219,7 +221,7 @@ module _ (m : Built) where
           let under = λ (u : Memory) (g : Stands m v2 w2 (hold c all ∷ calls) u). fewer m v2 w2 c calls u (c.held ++ kept r x) (kept r y) g in
           turned m {lo1 = suc (suc lo)} (omega arith)
           (both_operate m r t x y ix iy v2 w2 (Stands m v2 w2 (hold c all ∷ calls)) (λ z. Stands m v2 w2 (hold c (c.held ++ kept t z) ∷ calls)) n (temp s h) (temp s (h + n)) (pc + na + nd) (suc lo) 0 b count (omega arith)
-          (λ u g. last_hold m v2 w2 c calls u c.held r x h n hh count ix (under u g)) (λ u g. last_hold m v2 w2 c calls u (c.held ++ kept r x) r y (h + n) n (one_more c.held r x h n hh count) count iy g) (λ u g. g.sized.heap_used) at ws c.env _
+          (λ u g. last_stand m v2 w2 c calls u c.held r x h n hh count (under u g)) (λ u g. last_stand m v2 w2 c calls u (c.held ++ kept r x) r y (h + n) n (one_more c.held r x h n hh count) count g) (hold c all ∷ calls) (λ u g. g) at ws c.env _
           (λ z word u iz sz g. temp_set m v2 w2 c calls u h word t z hh (omega arith) iz one sz (fewer m v2 w2 c calls u c.held (kept r x) (under u g)))
           (λ z iz. seen m _ (place_is m (let e : pc + (na + nd + 1) ≡ pc + na + nd + 1 = omega arith in e) (post z w2 v2 iz))) o fit.1 stops has_i.0.0)))))
       ev_pays (logical_and a d) t c calls ws k v w h pc lo b le hh stops has fit enough reaches post =
@@ -255,19 +257,15 @@ module _ (m : Built) where
           (subst (λ l. At m (suc lo) 0 b v2 (k (only_value rs) w2) (Stands m v2 w2 (hold c (c.held ++ l) ∷ calls)) (pc + (nes + call_size m.program f))) (sym same) (post (only_value rs) w2 v2 (only_of t rs one))))))
       ev_pays (part_of number i e) t c calls ws k v w h pc lo b le hh stops has fit enough reaches post =
           let s = slots_of m.program m.placement c.func in let u = type_named m.program number in let ne = size m.program e in let count = width (part_type u i) in
-          let ce = ex_code m.program s e h pc in let move = moves count (temp s h) (temp s (h + part_offset u i)) in
+          let ce = ex_code m.program s e h pc in let move = Move Silent (temp s h) (temp s (h + part_offset u i)) count in
           let has_i = back m.code c.fn pc ne ce (move ∷ []) (length_code m.program s e h pc) has in
           ev_pays e u c calls ws _ v w h pc lo b le hh stops (front m.code c.fn pc ce (move ∷ []) has) fit.3 enough reaches (λ x w1 v1 ix. spared m (
           let same = ap width fit.1 in let some = fit.2 in let y = part x i in let iy = part_is u x i ix fit.0 in
           let room = wide_need c.scope u e fit.3 in let within = part_within u i fit.0 in
           turned m {lo1 = suc (suc lo)} (omega arith) (seen m _
           (later m {lo = suc (suc lo)} {hi = 1} {b = b} (omega arith) (omega arith) (omega arith)
-          (words_moved m {lo = suc lo} {hi = 0} count (temp s h) (temp s (h + part_offset u i)) has_i.0.0 (omega arith)
-          (λ r g. (
-            (let long = g.sized.used in omega arith),
-            part_room m c calls v1 w1 r c.held h u x i hh fit.0 ix g,
-            value_put m v1 w1 c calls r h (part_type u i) y (words_at r.words (temp s (h + part_offset u i)) count) hh (omega arith) (part_stand m c calls v1 w1 r c.held h u x i hh fit.0 ix g) (fewer m v1 w1 c calls r c.held (kept u x) g),
-          ))
+          (words_moved m {lo = suc lo} {hi = 0} Silent count (temp s h) (temp s (h + part_offset u i)) has_i.0.0
+          (λ r g. value_put m v1 w1 c calls r h (part_type u i) y (words_at r.words (temp s (h + part_offset u i)) count) hh (omega arith) (part_stand m c calls v1 w1 r c.held h u x i hh fit.0 ix g) (fewer m v1 w1 c calls r c.held (kept u x) g))
           (place_is m (let q : pc + (ne + 1) ≡ pc + ne + 1 = omega arith in q)
           (subst (λ z. At m (suc lo) 0 b v1 (k y w1) (Stands m v1 w1 (hold c (c.held ++ kept z y) ∷ calls)) (pc + (ne + 1))) (sym fit.1) (post y w1 v1 (subst (λ z. IsOf z y) fit.1 iy)))))))))
       ev_pays (literal number es) t c calls ws k v w h pc lo b le hh stops has fit enough reaches post =
@@ -279,15 +277,16 @@ module _ (m : Built) where
           (turned m {lo1 = suc (suc lo)} (omega arith)
           (later m {lo = suc (suc lo)} {hi = 1} {b = b} (omega arith) (omega arith) (omega arith)
           (words_zeroed m {lo = suc lo} {hi = 0} {G1 = begins} n (temp s h) has.0.0 some
-          (λ r g. ((let long = g.sized.used in omega arith), value_put m v w c calls r h u zero (replicate n 0) hh (omega arith) (zero_stands v.homes r.hi w u) g))
+          (λ r g. ((let long = g.sized.used in omega arith), value_put m v w c calls r h u zero (replicate n 0) hh (omega arith) (zero_stands m.program m.leading v.homes r.hi w u) g))
           (elim (ascend es) as (λ (o : Bool). ascend es ≡ o → Standing m.code c.fn (pc + 1) (elements_code m.program s u o es h (pc + 1)) → h + max n (elements_need m.program u o es) ≤ temps_of m.program m.placement c.func
           → ((y : Value) (w1 : World) (v1 : View) → IsOf u y → At m (suc lo) 0 b v1 (Meaning.give ws (literal number es) k y w1) (Stands m v1 w1 (hold c (c.held ++ kept u y) ∷ calls)) (pc + 1 + elements_size m.program u o es))
           → At m (suc lo) 0 b v (Meaning.fill around callees es zero ws c.env (Meaning.give ws (literal number es) k) w) begins (pc + 1)) [
-            | true ↦ λ order stands room on. given m (up_to_front m c calls v w c.held u zero (words_before u es)) (placed_follow es 0 u zero c c.held calls ws (Meaning.give ws (literal number es) k) v w h (pc + 1) (suc lo) b le hh stops stands order is (λ homes hi w1 j from l. zero_behind homes hi w1 u j l) fitting room reaches on)
+            | true ↦ λ order stands room on. given m (up_to_front m c calls v w c.held u zero (words_before u es)) (placed_follow es 0 u zero c c.held calls ws (Meaning.give ws (literal number es) k) v w h (pc + 1) (suc lo) b le hh stops stands order is (λ homes hi w1 j from l. zero_behind m.program m.leading homes hi w1 u j l) fitting room reaches on)
             | false ↦ λ order stands room on. moved_follow es u zero c c.held calls ws (Meaning.give ws (literal number es) k) v w h (pc + 1) (suc lo) b le hh stops stands is fitting room reaches on
           ] refl has.1 enough (λ y w1 v1 iy.
           seen m _ (place_is m (let q : pc + (1 + elements_size m.program u (ascend es) es) ≡ pc + 1 + elements_size m.program u (ascend es) es = omega arith in q)
           (subst (λ z. At m (suc lo) 0 b v1 (k y w1) (Stands m v1 w1 (hold c (c.held ++ kept z y) ∷ calls)) (pc + (1 + elements_size m.program u (ascend es) es))) (sym fit.0) (post y w1 v1 (typed y iy)))))))))
+      ev_pays e t c calls ws k v w h pc lo b le hh stops has fit enough reaches post = absurd fit
 
       -- the operands of a place, and room for some words after them
       pub place_follows : (q : Pl) (t : TypeTree) (behind others : ℕ) (c : Frame) (calls : List Frame) (ws : Ways) (k : Then Aim) (v : View) (w : World) (h pc lo b : ℕ) → b ≤ suc n → length c.held ≡ h → Panics ws → Standing m.code c.fn pc (place_code m.program (slots_of m.program m.placement c.func) q h pc)
@@ -299,6 +298,7 @@ module _ (m : Built) where
           steps_follow steps (site_type m.program site) t behind others c calls ws (λ r. k (record { base = Meaning.variable (c.env site); steps = r })) v w h pc lo b le hh stops has fit.1 enough reaches post
       place_follows (global g0 steps) t behind others c calls ws k v w h pc lo b le hh stops has fit enough reaches post =
           steps_follow steps (global_type m.program g0) t behind others c calls ws (λ r. k (record { base = Meaning.variable g0; steps = r })) v w h pc lo b le hh stops has fit.1 enough reaches post
+      place_follows q t behind others c calls ws k v w h pc lo b le hh stops has fit enough reaches post = absurd fit
 
       steps_follow : (steps : Steps) (u t : TypeTree) (behind others : ℕ) (c : Frame) (calls : List Frame) (ws : Ways) (k : Then (List Step)) (v : View) (w : World) (h pc lo b : ℕ) → b ≤ suc n → length c.held ≡ h → Panics ws → Standing m.code c.fn pc (steps_code m.program (slots_of m.program m.placement c.func) steps h pc)
           → StepsLead m.program c.scope u steps t → h + steps_need m.program steps behind ≤ temps_of m.program m.placement c.func → steps_reach m.program steps others ≤ outgoing_of m.program c.func
@@ -322,7 +322,7 @@ module _ (m : Built) where
 
       -- elements in order: what lies before the first of them stands, and after that the value is zero
       placed_follow : (es : Elements) (first : ℕ) (t : TypeTree) (x : Value) (c : Frame) (held : List Kept) (calls : List Frame) (ws : Ways) (k : Then Value) (v : View) (w : World) (h pc lo b : ℕ) → b ≤ suc n → length held ≡ h → Panics ws
-          → Standing m.code c.fn pc (elements_code m.program (slots_of m.program m.placement c.func) t true es h pc) → ascend_from first es ≡ true → IsOf t x → Zeros t x (words_before t es) → ElementsFit m.program c.scope t es
+          → Standing m.code c.fn pc (elements_code m.program (slots_of m.program m.placement c.func) t true es h pc) → ascend_from first es ≡ true → IsOf t x → Zeros m.program m.leading t x (words_before t es) → ElementsFit m.program c.scope t es
           → h + max (width t) (elements_need m.program t true es) ≤ temps_of m.program m.placement c.func → elements_reach m.program es ≤ outgoing_of m.program c.func
           → ((y : Value) (w1 : World) (v1 : View) → IsOf t y → At m lo 0 b v1 (k y w1) (Stands m v1 w1 (hold c (held ++ kept t y) ∷ calls)) (pc + elements_size m.program t true es))
           → At m lo 0 b v (Meaning.fill around callees es x ws c.env k w) (UpTo m c calls v w held t x (words_before t es)) pc
@@ -340,7 +340,7 @@ module _ (m : Built) where
           let z = with_part x i y in let iz = with_part_is t x y i ix fit.0 iy in
           let after = gap_fits m c.scope t x i es ix fit.0 fit.3 (in_order first i e es order).1 in
           let behind = before_fits m c.scope t x es ix fit.3 in
-          let zero : Zeros t z (words_through t i) = λ homes hi w2 j from l. subst (λ r. StandsFor homes hi w2 (leaf t j) r 0) (sym (behind_part t x y i fit.0 ix iy j from)) (zeros homes hi w2 j (omega arith) l) in
+          let zero : Zeros m.program m.leading t z (words_through t i) = λ homes hi w2 j from l. subst (λ r. StandsFor m.program m.leading homes hi w2 (leaf t j) r 0) (sym (behind_part t x y i fit.0 ix iy j from)) (zeros homes hi w2 j (omega arith) l) in
           given m (up_to_part m c calls v1 w1 held t x y i fit.0 ix iy)
           (gap_follows m c calls v1 w1 held t z h (words_through t i) (words_before t es) (pc + ne) lo b _ hh after behind (omega arith) (λ j hi from l. zero v1.homes hi w1 j from (omega arith)) (front m.code c.fn (pc + ne) cg rest has_g)
           (placed_follow es (suc i) t z c held calls (Meaning.holding ws e y) k v1 w1 h next lo b le hh stops has_r (in_order first i e es order).1 iz (λ homes hi w2 j from l. zero homes hi w2 j (omega arith) l) fit.3 (omega arith) (omega arith) (λ r w2 v2 ir.
@@ -358,16 +358,12 @@ module _ (m : Built) where
           let s = slots_of m.program m.placement c.func in let u = part_type t i in let there = h + width t in let ne = size m.program e in let count = width u in
           let from = temp s there in let to = temp s (h + part_offset t i) in
           let ce = ex_code m.program s e there pc in let rest = elements_code m.program s t false es h (pc + ne + 1) in
-          let has_m = back m.code c.fn pc ne ce (moves count to from ∷ rest) (length_code m.program s e there pc) has in
+          let has_m = back m.code c.fn pc ne ce (Move Silent to from count ∷ rest) (length_code m.program s e there pc) has in
           let wide = one_more held t x h (width t) hh refl in let inside = part_within t i fit.0 in let some = fit.1 in
-          ev_pays e u (hold c (held ++ kept t x)) calls ws _ v w there pc lo b le wide stops (front m.code c.fn pc ce (moves count to from ∷ rest) has) fit.2 (omega arith) (omega arith) (λ y w1 v1 iy.
+          ev_pays e u (hold c (held ++ kept t x)) calls ws _ v w there pc lo b le wide stops (front m.code c.fn pc ce (Move Silent to from count ∷ rest) has) fit.2 (omega arith) (omega arith) (λ y w1 v1 iy.
           later m {lo = suc lo} {hi = 1} {b = b} (omega arith) (omega arith) (omega arith)
-          (words_moved m {lo = lo} {hi = 0} count to from has_m.0.0 some
-          (λ r g. (
-            (let long = g.sized.used in omega arith),
-            last_room m v1 w1 c calls r (held ++ kept t x) u y there count wide refl g,
-            part_put m c calls v1 w1 r (words_at r.words from count) held h t x y i hh fit.0 ix iy (last_stand m v1 w1 c calls r (held ++ kept t x) u y there count wide refl g) (fewer m v1 w1 c calls r (held ++ kept t x) (kept u y) g),
-          ))
+          (words_moved m {lo = lo} {hi = 0} Silent count to from has_m.0.0
+          (λ r g. part_put m c calls v1 w1 r (words_at r.words from count) held h t x y i hh fit.0 ix iy (last_stand m v1 w1 c calls r (held ++ kept t x) u y there count wide refl g) (fewer m v1 w1 c calls r (held ++ kept t x) (kept u y) g))
           (moved_follow es t (with_part x i y) c held calls (Meaning.holding ws e y) k v1 w1 h (pc + ne + 1) lo b le hh stops has_m.1 (with_part_is t x y i ix fit.0 iy) fit.3 (omega arith) (omega arith) (λ z w2 v2 iz.
           place_is m (let q : pc + (ne + (1 + elements_size m.program t false es)) ≡ pc + ne + 1 + elements_size m.program t false es = omega arith in q) (post z w2 v2 iz)))))
 

@@ -142,5 +142,5 @@ module _ (m : Built) (around : Setting) (strings : around.strings ≡ m.program.
         subst (λ o. At m (suc lo) 1 b v (Meaning.run_body around m.program.funcs callees (suc n) f o vs ws env k w) (λ s. Stands m v w (c ∷ calls) s × Passing m v w (c ∷ calls) (all_leaves func.param_types) (contents_of vs) 0 s) pc) (sym named)
         (seen m _ (called m c calls v w f func (all_leaves func.param_types) (contents_of vs) pc lo b _ place named here own (all_leaves_length func.param_types) room
         (body_follows n callees (calls_follow n) f func named place (placed c (pc + 1) ∷ calls) vs ws env k _ w lo b le from stops typed room
-        (λ rs w1 v1 are. given m (λ s g. (good_back m.program m.placement m.max v1 w1 c calls s (pc + 1) g.0, g.1)) (post rs w1 v1 are)))));
+        (λ rs w1 v1 are. given m (λ s g. (good_back m.program m.placement m.max m.leading v1 w1 c calls s (pc + 1) g.0, g.1)) (post rs w1 v1 are)))));
   }

@@ -1,5 +1,5 @@
 -- The machine follows the writing of left sides, whose operands are held, and new variables.
-use Rattle.std.proofs.Common.{◌≡◌, ◌⊎◌, inl, inr, ℕ, suc, ◌+◌, ◌-◌, ◌<◌, ◌≤◌, List, [], ◌∷◌, ◌++◌, length, refl, sym, ap, ◌∙◌, subst, arith, append_assoc, append-nil}
+use Rattle.std.proofs.Common.{◌≡◌, ◌⊎◌, inl, inr, ℕ, suc, ◌+◌, ◌-◌, ◌<◌, ◌≤◌, List, [], ◌∷◌, ◌++◌, length, refl, sym, ap, ◌∙◌, subst, arith, append_assoc, append-nil, length-append}
 use Rattle.std.specs.Prelude.{slice_get, replicate}
 use Rattle.typed_syntax.specs.Value.{Value, IsOf}
 use Rattle.typed_syntax.specs.Syntax.{Pl, Steps, here as itself, inner, at_index, Left, Program, blank, new, to, local, global, site_type, each_width}
@@ -9,8 +9,9 @@ use Rattle.meaning.specs.Trace.{World}
 use Rattle.meaning.specs.Store.{value_of, written, born}
 use Rattle.meaning.specs.Meaning
 use Rattle.meaning.specs.Meaning.{Env, Go, Ways, Setting, Landing, nowhere, birth, on, with_home}
+use Rattle.isa.specs.declared.instr.MoveEvent.TheVariants.{Read}
 use Rattle.machine.specs.Machine.{words_at}
-use Rattle.program_code.specs.Code.{temp, site_slot, slots_of, steps_above, place_above, address_code, address_size, land_code, lefts_code, lefts_size, zeros_code, renew_code, renew_size, moves, zeros as zeros_at}
+use Rattle.program_code.specs.Code.{temp, site_slot, slots_of, steps_above, place_above, address_code, address_size, land_code, lefts_code, lefts_size, zeros_code, renew_code, renew_size, born_code}
 use Rattle.program_code.proofs.Sizes.{length_address, length_write}
 use Rattle.typed_syntax.specs.Types.{TypeTree, ints, width}
 use Rattle.typed_syntax.specs.Words.{contents}
@@ -20,12 +21,12 @@ use Rattle.state_relation.specs.Relation.{Memory, puts, Kept, Frame, hold, grown
 use Rattle.state_relation.proofs.Words.{zero_stands}
 use Rattle.state_relation.proofs.Changes.{home_other, narrowed}
 use Rattle.state_relation.proofs.Built.{Built}
-use Rattle.state_relation.proofs.Rules.{At, Stands, knowing, later, place_is, given, turned, seen, read_of, written_to, moved_by, zeroed_by}
-use Rattle.state_relation.proofs.Values.{kept, all_kept, all_kept_first, all_kept_joined, one_more, more_kept, value_put, fewer, held_stand, held_room}
+use Rattle.state_relation.proofs.Rules.{At, Stands, knowing, later, place_is, given, turned, seen, read_of, written_to}
+use Rattle.state_relation.proofs.Values.{kept, all_kept, all_kept_first, all_kept_joined, one_more, more_kept, value_put, fewer, held_stand}
 use Rattle.simulated_code.proofs.Standing.{Standing, front, back, Panics}
 use Rattle.simulated_code.proofs.Reached.{variable_of, steps_of, Operands, aimed, index_types, operands_are, Located, located, place_held, settled_follow, landed}
-use Rattle.simulated_code.proofs.Temps.{words_moved, held_there, last_stand, last_room}
-use Rattle.simulated_code.proofs.Births.{births_at, site_stand, site_typed, site_room, cell_kind, zero_value, zero_typed}
+use Rattle.simulated_code.proofs.Temps.{words_moved, held_there, last_stand}
+use Rattle.simulated_code.proofs.Births.{births_at, births_filled, site_stand, site_typed, cell_kind, zero_value, zero_typed}
 
 -- values for the indices of each left side that is a place
 abbrev pub Gives : List Left → List (List Value) → Type 0
@@ -82,6 +83,7 @@ steps_operands (at_index at e n steps) (u ∷ us) h held hh ops = ap (λ l. leng
 operands_above : (q : Pl) (us : List Value) (h : ℕ) (held : List Kept) → length held ≡ h → Operands (steps_of q) us → length (held ++ all_kept (index_types (steps_of q)) us) ≡ place_above q h
 operands_above (local site steps) us h held hh ops = steps_operands steps us h held hh ops
 operands_above (global g steps) us h held hh ops = steps_operands steps us h held hh ops
+operands_above q us h held hh ops = steps_operands itself us h held hh ops
 
 -- those of a place come before those of the left sides after it
 pub first_operands : (q : Pl) (us : List Value) (ls : List Left) (uss : List (List Value)) → Operands (steps_of q) us → all_kept (left_types (to q ∷ ls)) (together (us ∷ uss)) ≡ all_kept (index_types (steps_of q)) us ++ all_kept (left_types ls) (together uss)
@@ -96,6 +98,7 @@ module _ (m : Built) (around : Setting) (sites_are : around.sites ≡ m.program.
   kept_place : (before scope : List ℕ) (first env : Env) (n top : ℕ) (t : TypeTree) (p : Pl) → Keeping before scope first env n top → PlFits m.program before t p → Located m scope t p × (variable_of env p ≡ variable_of first p)
   kept_place before scope first env n top t (local site steps) keeping fit = let k = keeping site fit.0 in let l = located m before t (local site steps) fit in ((k.0, l.1, l.2), k.1)
   kept_place before scope first env n top t (global g steps) keeping fit = (located m before t (global g steps) fit, refl)
+  kept_place before scope first env n top t p keeping fit = absurd fit
 
   -- the first of the values that are left
   first_of : (t : TypeTree) (ts : List TypeTree) (x : Value) (vs : List Value) (gone tail all : List Kept) → IsOf t x → all ≡ gone ++ (all_kept (t ∷ ts) (x ∷ vs) ++ tail) → all ≡ gone ++ (kept t x ++ (all_kept ts vs ++ tail))
@@ -133,13 +136,14 @@ module _ (m : Built) (around : Setting) (sites_are : around.sites ≡ m.program.
       let first_held = λ (u : Memory) (g : Stands m v w (c0 ∷ calls) u). all_first t ts x vs gone tail all c0 calls v w u refl are.0 e g in
       let keeping1 : Keeping before (site ∷ scope) first (with_home env site (length w.store)) (suc n) top =
       λ u i. (inr (keeping u i).0, home_other env site (length w.store) u (λ q. elim (keeping u i).2 [ inl l ↦ absurd (omega arith) | inr l ↦ absurd (omega arith) ]) ∙ (keeping u i).1, elim (keeping u i).2 [ inl l ↦ inl (omega arith) | inr l ↦ inr l ]) in
-      turned m {lo1 = suc lo} (omega arith)
-      (births_at m {lo = lo} {hi = 0} {G1 = Stands m (after_stack v d) (born w cell) (grown c0 site (length w.store) ∷ calls)} c0 calls v w site _ pc cell (moves n1 (site_slot s site) (temp s h)) (λ u. words_at u.words (temp s h) n1) has.0.0 (omega arith) (omega arith) kind typed (λ u g. g)
-      (λ u g. moved_by m n1 (site_slot s site) (temp s h) pc u solid (site_room m c0 calls v w u site (omega arith) (omega arith) g) (held_room m v w c0 calls u gone (all_kept ts vs ++ tail) t x h n1 hg same (first_held u g)))
-      (λ u g. subst (λ o. Stand v.homes u.hi w (leaves o) (contents x) (words_at u.words (temp s h) n1)) (sym (kind ∙ fit.2)) (held_stand m v w c0 calls u gone (all_kept ts vs ++ tail) t x h n1 hg same (first_held u g)))
+      let below = ap length (next_held t ts x vs gone tail all are.0 e) in let among_all = length-append (gone ++ kept t x) (all_kept ts vs ++ tail) in
+      turned m {lo1 = suc (suc lo)} (omega arith)
+      (births_filled m {lo = lo} {hi = 0} {G1 = Stands m (after_stack v d) (born w cell) (grown c0 site (length w.store) ∷ calls)} c0 calls v w site _ pc h cell has.0.0 has.1.0.0
+      (omega (arith, same, below, among_all, one_more gone t x h (width t) hg refl)) (omega arith) (omega arith) kind typed (λ u g. g)
+      (λ u g. subst (λ o. Stand m.program m.leading v.homes u.hi w (leaves o) (contents x) (words_at u.words (temp s h) n1)) (sym (kind ∙ fit.2)) (held_stand m v w c0 calls u gone (all_kept ts vs ++ tail) t x h n1 hg same (first_held u g)))
       (λ u g k. k)
-      (lefts_follow ls ts vs (gone ++ kept t x) tail all uss ahead more c first (with_home env site (length w.store)) before (site ∷ scope) calls ws k (after_stack v d) (born w cell) (suc n) top at ho (h + width t) (pc + 1) lo b stops are.1 (one_more gone t x h (width t) hg refl) (next_held t ts x vs gone tail all are.0 e) gives hp eo ha has.1 fit.3 (omega arith) (omega arith) (omega arith) keeping1
-      (λ env1 w1 v1. place_is m (let q : pc + suc (lefts_size ls) ≡ pc + 1 + lefts_size ls = omega arith in q) (post env1 w1 v1))))
+      (lefts_follow ls ts vs (gone ++ kept t x) tail all uss ahead more c first (with_home env site (length w.store)) before (site ∷ scope) calls ws k (after_stack v d) (born w cell) (suc n) top at ho (h + width t) (pc + 1 + 1) lo b stops are.1 (one_more gone t x h (width t) hg refl) (next_held t ts x vs gone tail all are.0 e) gives hp eo ha has.1.1 fit.3 (omega arith) (omega arith) (omega arith) keeping1
+      (λ env1 w1 v1. place_is m (let q : pc + suc (suc (lefts_size ls)) ≡ pc + 1 + 1 + lefts_size ls = omega arith in q) (post env1 w1 v1))))
   lefts_follow (to p ∷ ls) (t ∷ ts) (x ∷ vs) gone tail all [] ahead more c first env before scope calls ws k v w n top at ho h pc lo b stops are hg e gives hp eo ha has fit room from under keeping post = absurd gives
   lefts_follow (to p ∷ ls) (t ∷ ts) (x ∷ vs) gone tail all (us ∷ uss) ahead more c first env before scope calls ws k v w n top at ho h pc lo b stops are hg e gives hp eo ha has fit room from under keeping post =
       let s = slots_of m.program m.placement c.func in let above = place_above p ho in let c0 = during c env scope all in
@@ -177,20 +181,19 @@ module _ (m : Built) (around : Setting) (sites_are : around.sites ≡ m.program.
       let n = width t in let solid = m.solid site in let cell = Meaning.new_cell entry site (Meaning.site_type around site) x in
       let kind = cell_kind m around sites_are site in
       let c1 = during c env scope (held ++ kept t x) in let d = depth m.program m.placement (c1 ∷ calls) - site_slot s site in
-      let q : pc + suc (suc (renew_size sites)) ≡ pc + 1 + 1 + renew_size sites = omega arith in
+      let q : pc + suc (suc (suc (renew_size sites))) ≡ pc + 1 + 1 + 1 + renew_size sites = omega arith in
       let env1 = with_home env site (length w.store) in
       knowing m (λ s0 g0.
       let places = g0.homed.owned.0.among site among.0 in let typed = site_typed m old calls v w s0 site among.0 g0 in
-      turned m {lo1 = suc (suc lo)} (omega arith) (seen m _ (read_of m _ _ _
-      (later m {lo = suc (suc lo)} {hi = 1} {b = b} (omega arith) (omega arith) (omega arith)
-      (words_moved m {lo = suc lo} {hi = 1} {G1 = Stands m v w (c1 ∷ calls)} n (temp s h) (site_slot s site) has.0.0 solid
-      (λ u g. ((let long = g.sized.used in omega arith), site_room m old calls v w u site places.0 places.1 g, value_put m v w old calls u h t x (words_at u.words (site_slot s site) n) hh (omega arith) (site_stand m old calls v w u site among.0 g) g))
-      (births_at m {lo = lo} {hi = 0} {G1 = Stands m (after_stack v d) (born w cell) (during c env1 scope held ∷ calls)} c1 calls v w site _ (pc + 1) cell (moves n (site_slot s site) (temp s h)) (λ u. words_at u.words (temp s h) n) has.1.0.0 places.0 places.1 kind (subst (λ o. IsOf o x) (sym kind) typed) (λ u g. g)
-      (λ u g. moved_by m n (site_slot s site) (temp s h) (pc + 1) u solid (site_room m c1 calls v w u site places.0 places.1 g) (last_room m v w old calls u held t x h n hh refl g))
-      (λ u g. subst (λ o. Stand v.homes u.hi w (leaves o) (contents x) (words_at u.words (temp s h) n)) (sym kind) (last_stand m v w old calls u held t x h n hh refl g))
-      (λ u g k. narrowed m.program m.placement m.max (after_stack v d) (born w cell) (during c env1 (site ∷ scope) held) calls (puts u (site_slot s site) (words_at u.words (temp s h) n)) env1 (site ∷ scope) scope (λ i j. inr j)
+      turned m {lo1 = suc (suc (suc lo))} (omega arith) (seen m _ (read_of m _ _ _
+      (later m {lo = suc (suc (suc lo))} {hi = 1} {b = b} (omega arith) (omega arith) (omega arith)
+      (words_moved m {lo = suc (suc lo)} {hi = 1} {G1 = Stands m v w (c1 ∷ calls)} Read n (temp s h) (site_slot s site) has.0.0
+      (λ u g. value_put m v w old calls u h t x (words_at u.words (site_slot s site) n) hh (omega arith) (site_stand m old calls v w u site among.0 g) g)
+      (births_filled m {lo = lo} {hi = 0} {G1 = Stands m (after_stack v d) (born w cell) (during c env1 scope held ∷ calls)} c1 calls v w site _ (pc + 1) h cell has.1.0.0 has.1.1.0.0 (omega arith) places.0 places.1 kind (subst (λ o. IsOf o x) (sym kind) typed) (λ u g. g)
+      (λ u g. subst (λ o. Stand m.program m.leading v.homes u.hi w (leaves o) (contents x) (words_at u.words (temp s h) n)) (sym kind) (last_stand m v w old calls u held t x h n hh refl g))
+      (λ u g k. narrowed m.program m.placement m.max m.leading (after_stack v d) (born w cell) (during c env1 (site ∷ scope) held) calls (puts u (site_slot s site) (words_at u.words (temp s h) n)) env1 (site ∷ scope) scope (λ i j. inr j)
       (fewer m (after_stack v d) (born w cell) (during c env1 (site ∷ scope) held) calls (puts u (site_slot s site) (words_at u.words (temp s h) n)) held (kept t x) k))
-      (renew_follows sites c env1 scope held calls entry k (after_stack v d) (born w cell) h (pc + 1 + 1) lo b hh (omega arith) among.1 has.1.1
+      (renew_follows sites c env1 scope held calls entry k (after_stack v d) (born w cell) h (pc + 1 + 1 + 1) lo b hh (omega arith) among.1 has.1.1.1
       (λ env2 w1 v1. place_is m q (post env2 w1 v1)))))))))
 
   -- new variables with zeros
@@ -205,9 +208,9 @@ module _ (m : Built) (around : Setting) (sites_are : around.sites ≡ m.program.
       let here = fit.0 in let among = fit.1 in let solid = m.solid site in let kind = cell_kind m around sites_are site in
       let d = depth m.program m.placement (c0 ∷ calls) - site_slot s site in
       turned m {lo1 = suc lo} (omega arith)
-      (births_at m {lo = lo} {hi = 0} {G1 = Stands m (after_stack v d) (born w cell) (grown c0 site (length w.store) ∷ calls)} c0 calls v w site _ pc cell (zeros_at n1 (site_slot s site)) (λ u. replicate n1 0) has.0.0 (omega arith) (omega arith) kind (zero_typed m around sites_are site) (λ u g. g)
-      (λ u g. zeroed_by m n1 (site_slot s site) pc u solid (site_room m c0 calls v w u site (omega arith) (omega arith) g))
-      (λ u g. subst (λ o. Stand v.homes u.hi w (leaves o) (contents x) (replicate n1 0)) (sym kind) (subst (λ y. Stand v.homes u.hi w (leaves t) (contents y) (replicate n1 0)) (sym (zero_value m around sites_are site)) (zero_stands v.homes u.hi w t)))
+      (births_at m {lo = lo} {hi = 0} {G1 = Stands m (after_stack v d) (born w cell) (grown c0 site (length w.store) ∷ calls)} c0 calls v w site _ pc cell (born_code s site) (λ u. replicate n1 0) has.0.0 (omega arith) (omega arith) kind (zero_typed m around sites_are site) (λ u g. g)
+      (λ u g. refl)
+      (λ u g. subst (λ o. Stand m.program m.leading v.homes u.hi w (leaves o) (contents x) (replicate n1 0)) (sym kind) (subst (λ y. Stand m.program m.leading v.homes u.hi w (leaves t) (contents y) (replicate n1 0)) (sym (zero_value m around sites_are site)) (zero_stands m.program m.leading v.homes u.hi w t)))
       (λ u g k. k)
       (zeros_follow sites c (with_home env site (length w.store)) (site ∷ scope) held calls entry k (after_stack v d) (born w cell) (suc n) (pc + 1) lo b has.1 fit.2 (omega arith)
       (λ env1 w1 v1. place_is m (let e : pc + suc (length sites) ≡ pc + 1 + length sites = omega arith in e) (post env1 w1 v1))))

@@ -4,7 +4,7 @@ use Rattle.std.specs.Prelude.{slice_get, slice_index, Some}
 use Rattle.std.specs.Fmt.{signed_decimal}
 use Rattle.typed_syntax.specs.Value.{Value, int, bool, IsOf}
 use Rattle.typed_syntax.specs.Syntax.{Piece, text, shown}
-use Rattle.typed_syntax.specs.Types.{TypeTree, ints, bools, struct_of, array_of}
+use Rattle.typed_syntax.specs.Types.{TypeTree, ints, bools, struct_of, array_of, pointer_to, slice_of}
 use Rattle.typed_syntax.specs.Form.{IsPlain, AreOf}
 use Rattle.meaning.specs.Trace.{World, Print, Trace, Note}
 use Rattle.meaning.specs.Meaning
@@ -20,7 +20,7 @@ use Rattle.state_relation.proofs.Words.{Spells}
 use Rattle.state_relation.proofs.Built.{Built}
 use Rattle.state_relation.proofs.Rules.{state_of, At, Stands, place_is, turned, printing}
 use Rattle.state_relation.proofs.Values.{kept, all_kept, all_kept_first, one_more, more_kept, held_word}
-use Rattle.simulated_code.proofs.Numbers.{no_struct, no_array}
+use Rattle.simulated_code.proofs.Numbers.{no_struct, no_array, no_pointer, no_slice}
 use Rattle.simulated_code.proofs.Standing.{Standing}
 
 -- the types of the operands that are values
@@ -50,12 +50,14 @@ module _ (m : Built) where
   value_printed bools x a pc lo hi b rest plain typed here stands post = absurd typed
   value_printed (struct_of ts) x a pc lo hi b rest plain typed here stands post = absurd (no_struct ts plain)
   value_printed (array_of n t) x a pc lo hi b rest plain typed here stands post = absurd (no_array n t plain)
+  value_printed (pointer_to n) x a pc lo hi b rest plain typed here stands post = absurd (no_pointer n plain)
+  value_printed (slice_of n) x a pc lo hi b rest plain typed here stands post = absurd (no_slice n plain)
 
   -- one among values that are held
   held_next : (v : View) (w : World) (c : Frame) (calls : List Frame) (before all : List Kept) (t : TypeTree) (ts : List TypeTree) (x : Value) (vs : List Value) (h : ℕ) → IsPlain t → IsOf t x → length before ≡ h → all ≡ before ++ all_kept (t ∷ ts) (x ∷ vs) → (u : Memory) → Stands m v w (hold c all ∷ calls) u
       → Spells x (slice_index u.words (temp (slots_of m.program m.placement c.func) h))
   held_next v w c calls before all t ts x vs h plain typed hb e u g =
-      held_word m v w c calls u before (all_kept ts vs) t x h hb (plain_one t plain) (subst (λ l. Stands m v w (hold c l ∷ calls) u) (e ∙ ap (λ l. before ++ l) (all_kept_first t ts x vs typed)) g)
+      held_word m v w c calls u before (all_kept ts vs) t x h hb plain (subst (λ l. Stands m v w (hold c l ∷ calls) u) (e ∙ ap (λ l. before ++ l) (all_kept_first t ts x vs typed)) g)
 
   -- the strings are those of the program
   module _ (strings : List (List ℕ)) (same : strings ≡ m.program.strings) where

@@ -1,5 +1,5 @@
 -- The machine follows statements with others inside, where it follows those.
-use Rattle.std.proofs.Common.{◌≡◌, inl, ℕ, suc, ◌+◌, ◌-◌, ◌≤◌, ℤ, pos, true, false, List, [], ◌∷◌, ◌++◌, length, Option, Some, None, refl, sym, ap, ◌∙◌, subst, arith, append_assoc, append-nil, length-append}
+use Rattle.std.proofs.Common.{◌≡◌, inr, inl, ℕ, suc, ◌+◌, ◌-◌, ◌≤◌, ℤ, pos, true, false, List, [], ◌∷◌, ◌++◌, length, Option, Some, None, refl, sym, ap, ◌∙◌, subst, arith, append_assoc, append-nil, length-append}
 use Rattle.std.specs.Prelude.{◌&&◌}
 use Rattle.typed_syntax.specs.Value.{Value, int, IsOf}
 use Rattle.typed_syntax.specs.Syntax.{Ex, Left, St, Sts, blank, new, to, over_int, if_stmt, for_stmt, range, done, next, argument_words}
@@ -49,7 +49,7 @@ module _ (m : Built) (around : Setting) (types : around.types ≡ m.program.type
       (scoped_after m.program c.func c.func.results (length named) looped (c.func.first + c.func.count) scope q x fit.0 sc)
       (leads_later m c calls {lo = lo} {b = b} (omega arith) (omega arith) (second_or (breaks x) (breaks_all xs)) (after_has scope x) leads)
       (λ go_on env2 w2 v2. place_is m (let e : pc + (lx + lxs) ≡ pc + lx + lxs = omega arith in e)
-      (given m (λ u g. narrowed m.program m.placement m.max v2 w2 (hold c held) calls u env2 (scope_after scope x) scope (after_has scope x) g) (post (both_go_on x xs goes go_on) env2 w2 v2)))))
+      (given m (λ u g. narrowed m.program m.placement m.max m.leading v2 w2 (hold c held) calls u env2 (scope_after scope x) scope (after_has scope x) g) (post (both_go_on x xs goes go_on) env2 w2 v2)))))
 
   pub choose_follows : (e : Ex) (x y : Sts) → AllFollowed m c calls around callees n x → AllFollowed m c calls around callees n y → Followed m c calls around callees n (if_stmt e x y)
   choose_follows e x y first second ws env k v w held h looped outer scope q out again pc lo b le hh has fit enough reaches sc leads post =
@@ -64,7 +64,7 @@ module _ (m : Built) (around : Setting) (types : around.types ≡ m.program.type
       ev_follows m around types inputs callees n cf e bools (during c env scope held) calls ws _ v w h pc lo b le hh leads.panics (front m.code c.fn pc ce (z ∷ (cx ++ j ∷ cy)) has) fit.0 (omega arith) (omega arith) (λ r w1 v1 ir.
       turned m {lo1 = suc (suc lo)} (omega arith)
       (branches m r (Meaning.exec_all around callees (suc n) x ws env k) (Meaning.exec_all around callees (suc n) y ws env k) v1 w1 (Stands m v1 w1 (during c env scope (held ++ kept bools r) ∷ calls)) (Stands m v1 w1 (during c env scope held ∷ calls)) (temp s h) p2 (pc + size fs e) (suc lo) b has1.0.0 ir
-      (λ u g. (last_word m v1 w1 (during c env scope held) calls u held bools r h hh refl g, fewer m v1 w1 (during c env scope held) calls u held (kept bools r) g))
+      (λ u g. (last_word m v1 w1 (during c env scope held) calls u held bools r h hh (inr refl) g, fewer m v1 w1 (during c env scope held) calls u held (kept bools r) g))
       (first ws env k v1 w1 held h looped outer scope q out again p1 (suc lo) b le hh (front m.code c.fn p1 cx (j ∷ cy) has1.1) fit.1 (omega arith) (omega arith) sc
       (leads_later m c calls {lo = lo} {b = b} (omega arith) (omega arith) (first_or (breaks_all x) (breaks_all y)) (λ u i. i) leads)
       (λ goes env1 w2 v2. later m {lo = suc lo} {hi = 1} {b = b} (omega arith) (omega arith) (omega arith) (stepped m {lo = lo} {hi = 0} j (λ u. u) has3.0.0 (λ u g. (refl, refl, g))
@@ -86,7 +86,7 @@ module _ (m : Built) (around : Setting) (types : around.types ≡ m.program.type
       ev_follows m around types inputs callees n cf e bools (during c env scope held) calls ws _ v w h pc lo d (omega arith) hh stops (front m.code c.fn pc ce (z ∷ []) has) fit enough reaches (λ r w1 v1 ir.
       turned m {lo1 = suc lo} (omega arith)
       (branches m r g1 g2 v1 w1 (Stands m v1 w1 (during c env scope (held ++ kept bools r) ∷ calls)) (Stands m v1 w1 (during c env scope held ∷ calls)) (temp s h) behind (pc + size fs e) lo d has1.0.0 ir
-      (λ u g. (last_word m v1 w1 (during c env scope held) calls u held bools r h hh refl g, fewer m v1 w1 (during c env scope held) calls u held (kept bools r) g))
+      (λ u g. (last_word m v1 w1 (during c env scope held) calls u held bools r h hh (inr refl) g, fewer m v1 w1 (during c env scope held) calls u held (kept bools r) g))
       (place_is m (let q : pc + (size fs e + 1) ≡ pc + size fs e + 1 = omega arith in q) (on w1 v1)) (off refl w1 v1)))
 
   pub loop_follows : (sites : List ℕ) (test : Option Ex) (after body : Sts) → AllFollowed m c calls around callees n after → AllFollowed m c calls around callees n body → Followed m c calls around callees n (for_stmt sites test after body)
@@ -267,7 +267,7 @@ module _ (m : Built) (around : Setting) (types : around.types ≡ m.program.type
           (front m.code c.fn here cb counts has_b) fit.2 (omega arith) (let others = lefts_others m.program (sts_reach m.program body) (key ∷ []) in omega (arith, key_alone m.program key (sts_reach m.program body))) (scoped_behind m.program c.func scope q (c.func.first + c.func.count) (ints ∷ []) (key ∷ []) fit.1 sc)
           (leads_inside m c calls first then_next db (behind_has scope (key ∷ [])) (leads_holding m c calls e (int z) leads)
           (λ t env3 w4 v4. given m (λ x g. fewer m v4 w4 (during c env3 scope held) calls x held (kept ints (int z) ++ kept ints (int (pos i))) g) (after_later m c calls held scope behind lo lo b d first (omega arith) db (behind_loop u) env3 w4 v4)) next)
-          (λ goes env3 w4 v4. given m (λ x g. narrowed m.program m.placement m.max v4 w4 (hold c all) calls x env3 more scope (behind_has scope (key ∷ [])) g) (next env3 w4 v4))))))))
+          (λ goes env3 w4 v4. given m (λ x g. narrowed m.program m.placement m.max m.leading v4 w4 (hold c all) calls x env3 more scope (behind_has scope (key ∷ [])) g) (next env3 w4 v4))))))))
 
       over : (x : Value) (w1 : World) (v1 : View) → IsOf ints x
           → At m lo 0 b v1 (Meaning.turn (Meaning.births (λ u1. Meaning.counted (suc n) 0 (Meaning.count_of x) (Meaning.index_round around callees (suc n) key (Meaning.exec_all around callees (suc n) body) (Meaning.holding ws e x) (Meaning.outside k)) (Meaning.outside k) u1 env)) w1) (Stands m v1 w1 (during c env scope (held ++ kept ints x) ∷ calls)) (pc + size m.program e)

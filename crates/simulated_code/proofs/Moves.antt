@@ -10,7 +10,8 @@ use Rattle.typed_syntax.specs.Syntax.{Func, Program, all_width, argument_words, 
 use Rattle.frames.specs.Frames.{outgoing_of, temps_of}
 use Rattle.meaning.specs.Trace.{World, Trace, Turn}
 use Rattle.meaning.specs.Meaning.{Env, Then, Ways, Calls}
-use Rattle.isa.specs.declared.instr.Instr.TheVariants.{MoveWords, Call}
+use Rattle.isa.specs.declared.instr.MoveEvent.TheVariants.{Silent}
+use Rattle.isa.specs.declared.instr.Instr.TheVariants.{Move, Call}
 use Rattle.machine.specs.Machine.{words_at, owner_of}
 use Rattle.program_code.specs.Code.{temp, slots_of, move_code, move_size, call_code, call_size}
 use Rattle.program_code.proofs.Sizes.{length_move}
@@ -52,37 +53,37 @@ module _ (m : Built) where
   -- words that are passed, one after the other
   pub passing_first : (v : View) (w : World) (calls : List Frame) (ls ms : List TypeTree) (cs ds : List Content) (a : ℕ) (s : Memory) → length cs ≡ length ls → Passing m v w calls (ls ++ ms) (cs ++ ds) a s → Passing m v w calls ls cs a s
   passing_first v w calls ls ms cs ds a s e pass j l =
-      subst (λ k. StandsFor v.homes s.hi w k (get_or cs j nothing) (word_at s.words (depth m.program m.placement calls - (a + j)))) (get_or_append_left ls ms ints j l)
-      (subst (λ k. StandsFor v.homes s.hi w (get_or (ls ++ ms) j ints) k (word_at s.words (depth m.program m.placement calls - (a + j)))) (get_or_append_left cs ds nothing j (omega (arith, e))) (pass j (omega (arith, length-append ls ms))))
+      subst (λ k. StandsFor m.program m.leading v.homes s.hi w k (get_or cs j nothing) (word_at s.words (depth m.program m.placement calls - (a + j)))) (get_or_append_left ls ms ints j l)
+      (subst (λ k. StandsFor m.program m.leading v.homes s.hi w (get_or (ls ++ ms) j ints) k (word_at s.words (depth m.program m.placement calls - (a + j)))) (get_or_append_left cs ds nothing j (omega (arith, e))) (pass j (omega (arith, length-append ls ms))))
 
   pub passing_rest : (v : View) (w : World) (calls : List Frame) (ls ms : List TypeTree) (cs ds : List Content) (a n : ℕ) (s : Memory) → length cs ≡ length ls → n ≡ length ls → Passing m v w calls (ls ++ ms) (cs ++ ds) a s → Passing m v w calls ms ds (a + n) s
   passing_rest v w calls ls ms cs ds a n s e many pass j l =
       let q : depth m.program m.placement calls - (a + (length ls + j)) ≡ depth m.program m.placement calls - (a + n + j) = omega (arith, many) in
       let p = pass (length ls + j) (omega (arith, length-append ls ms)) in
-      let p1 = subst (λ k. StandsFor v.homes s.hi w k (get_or (cs ++ ds) (length ls + j) nothing) (word_at s.words (depth m.program m.placement calls - (a + (length ls + j))))) (get_or-append-add ls ms j ints) p in
-      let p2 = subst (λ k. StandsFor v.homes s.hi w (get_or ms j ints) (get_or (cs ++ ds) (k + j) nothing) (word_at s.words (depth m.program m.placement calls - (a + (length ls + j))))) (sym e) p1 in
-      let p3 = subst (λ k. StandsFor v.homes s.hi w (get_or ms j ints) k (word_at s.words (depth m.program m.placement calls - (a + (length ls + j))))) (get_or-append-add cs ds j nothing) p2 in
-      subst (λ k. StandsFor v.homes s.hi w (get_or ms j ints) (get_or ds j nothing) (word_at s.words k)) q p3
+      let p1 = subst (λ k. StandsFor m.program m.leading v.homes s.hi w k (get_or (cs ++ ds) (length ls + j) nothing) (word_at s.words (depth m.program m.placement calls - (a + (length ls + j))))) (get_or-append-add ls ms j ints) p in
+      let p2 = subst (λ k. StandsFor m.program m.leading v.homes s.hi w (get_or ms j ints) (get_or (cs ++ ds) (k + j) nothing) (word_at s.words (depth m.program m.placement calls - (a + (length ls + j))))) (sym e) p1 in
+      let p3 = subst (λ k. StandsFor m.program m.leading v.homes s.hi w (get_or ms j ints) k (word_at s.words (depth m.program m.placement calls - (a + (length ls + j))))) (get_or-append-add cs ds j nothing) p2 in
+      subst (λ k. StandsFor m.program m.leading v.homes s.hi w (get_or ms j ints) (get_or ds j nothing) (word_at s.words k)) q p3
 
   pub passing_joined : (v : View) (w : World) (calls : List Frame) (ls ms : List TypeTree) (cs ds : List Content) (a : ℕ) (s : Memory) → length cs ≡ length ls → Passing m v w calls ls cs a s → Passing m v w calls ms ds (a + length ls) s → Passing m v w calls (ls ++ ms) (cs ++ ds) a s
   passing_joined v w calls ls ms cs ds a s e one two j l = elim (less_or j (length ls)) [
     | inl lt ↦
-        subst (λ k. StandsFor v.homes s.hi w k (get_or (cs ++ ds) j nothing) (word_at s.words (depth m.program m.placement calls - (a + j)))) (sym (get_or_append_left ls ms ints j lt))
-        (subst (λ k. StandsFor v.homes s.hi w (get_or ls j ints) k (word_at s.words (depth m.program m.placement calls - (a + j)))) (sym (get_or_append_left cs ds nothing j (omega (arith, e)))) (one j lt))
+        subst (λ k. StandsFor m.program m.leading v.homes s.hi w k (get_or (cs ++ ds) j nothing) (word_at s.words (depth m.program m.placement calls - (a + j)))) (sym (get_or_append_left ls ms ints j lt))
+        (subst (λ k. StandsFor m.program m.leading v.homes s.hi w (get_or ls j ints) k (word_at s.words (depth m.program m.placement calls - (a + j)))) (sym (get_or_append_left cs ds nothing j (omega (arith, e)))) (one j lt))
     | inr le ↦ (
         let i : ℕ = j - length ls in let q : depth m.program m.placement calls - (a + length ls + i) ≡ depth m.program m.placement calls - (a + j) = omega arith in
-        subst (λ k. StandsFor v.homes s.hi w k (get_or (cs ++ ds) j nothing) (word_at s.words (depth m.program m.placement calls - (a + j)))) (sym (get_or-append_right ls ms (length ls) j ints refl le))
-        (subst (λ k. StandsFor v.homes s.hi w (get_or ms i ints) k (word_at s.words (depth m.program m.placement calls - (a + j)))) (sym (get_or-append_right cs ds (length ls) j nothing e le))
-        (subst (λ k. StandsFor v.homes s.hi w (get_or ms i ints) (get_or ds i nothing) (word_at s.words k)) q (two i (omega (arith, length-append ls ms)))))
+        subst (λ k. StandsFor m.program m.leading v.homes s.hi w k (get_or (cs ++ ds) j nothing) (word_at s.words (depth m.program m.placement calls - (a + j)))) (sym (get_or-append_right ls ms (length ls) j ints refl le))
+        (subst (λ k. StandsFor m.program m.leading v.homes s.hi w (get_or ms i ints) k (word_at s.words (depth m.program m.placement calls - (a + j)))) (sym (get_or-append_right cs ds (length ls) j nothing e le))
+        (subst (λ k. StandsFor m.program m.leading v.homes s.hi w (get_or ms i ints) (get_or ds i nothing) (word_at s.words k)) q (two i (omega (arith, length-append ls ms)))))
         )
   ]
 
   -- they stay where the words of these calls do
   pub passing_kept : (v v1 : View) (w w1 : World) (calls : List Frame) (ls : List TypeTree) (cs : List Content) (a : ℕ) (s s1 : Memory) → Later v.homes v1.homes w w1 → s.hi ≡ s1.hi → ((d : ℕ) → d ≤ depth m.program m.placement calls → word_at s1.words d ≡ word_at s.words d) → Passing m v w calls ls cs a s → Passing m v1 w1 calls ls cs a s1
   passing_kept v v1 w w1 calls ls cs a s s1 later upper same pass j l =
-      subst (λ k. StandsFor v1.homes k w1 (get_or ls j ints) (get_or cs j nothing) (word_at s1.words (depth m.program m.placement calls - (a + j)))) upper
-      (subst (λ k. StandsFor v1.homes s.hi w1 (get_or ls j ints) (get_or cs j nothing) k) (sym (same (depth m.program m.placement calls - (a + j)) (omega arith)))
-      (stands_later v.homes v1.homes s.hi w w1 (get_or ls j ints) (get_or cs j nothing) _ later (pass j l)))
+      subst (λ k. StandsFor m.program m.leading v1.homes k w1 (get_or ls j ints) (get_or cs j nothing) (word_at s1.words (depth m.program m.placement calls - (a + j)))) upper
+      (subst (λ k. StandsFor m.program m.leading v1.homes s.hi w1 (get_or ls j ints) (get_or cs j nothing) k) (sym (same (depth m.program m.placement calls - (a + j)) (omega arith)))
+      (stands_later m.program m.leading v.homes v1.homes s.hi w w1 (get_or ls j ints) (get_or cs j nothing) _ later (pass j l)))
 
   pub arguments_moved : (count h : ℕ) (c : Frame) (calls : List Frame) (v : View) (w : World) (ts : List TypeTree) (vs : List Value) (pc lo b : ℕ) (t : Trace) → Standing m.code c.fn pc (move_code count 0 (temp (slots_of m.program m.placement c.func) h))
       → length c.held ≡ h → all_width ts ≡ count → count ≤ outgoing_of m.program c.func
@@ -93,13 +94,13 @@ module _ (m : Built) where
       (given m (λ s g. (fewer m v w c calls s c.held (all_kept ts vs) g, λ j l. absurd (omega (arith, all_leaves_length ts, many)))) (place_is m e post))
   arguments_moved (suc k) h c calls v w ts vs pc lo b t has hh many room post =
       let a = temp (slots_of m.program m.placement c.func) h in
-      stepped m {lo = lo} {hi = 1} (MoveWords 0 a (suc k)) (λ s. puts s 0 (words_at s.words a (suc k))) has.0.0 (λ s g. (refl, refl, passed s g)) post
+      stepped m {lo = lo} {hi = 1} (Move Silent 0 a (suc k)) (λ s. puts s 0 (words_at s.words a (suc k))) has.0.0 (λ s g. (refl, refl, passed s g)) post
     where
       passed : (s : Memory) → Stands m v w (hold c (c.held ++ all_kept ts vs) ∷ calls) s → Passed v w (c ∷ calls) ts vs 0 (puts s 0 (words_at s.words (temp (slots_of m.program m.placement c.func) h) (suc k)))
       passed s g =
           let st = values_stand m v w c calls s c.held ts vs h (suc k) hh (sym many) g in let long = st.long in let g1 = fewer m v w c calls s c.held (all_kept ts vs) g in
           let xs = words_at s.words (temp (slots_of m.program m.placement c.func) h) (suc k) in (
-            good_free m.program m.placement m.max v w c calls s 0 xs (inr (omega (arith, all_leaves_length ts))) g1,
+            good_free m.program m.placement m.max m.leading v w c calls s 0 xs (inr (omega (arith, all_leaves_length ts))) g1,
             passing_put m v w c calls s (all_leaves ts) (contents_of vs) 0 xs (omega (arith, all_leaves_length ts)) st g1,
           )
 
@@ -113,13 +114,13 @@ module _ (m : Built) where
   results_moved (suc k) h a c calls v w ts rs pc lo b t has hh many room within post =
       let to = temp (slots_of m.program m.placement c.func) h in
       later m {lo = suc lo} {hi = 1} {b = b} (omega arith) (omega arith) (omega arith)
-      (stepped m {lo = lo} {hi = 0} (MoveWords to a (suc k)) (λ s. puts s to (words_at s.words a (suc k))) has.0.0 (λ s g. (refl, refl, moved s g)) post)
+      (stepped m {lo = lo} {hi = 0} (Move Silent to a (suc k)) (λ s. puts s to (words_at s.words a (suc k))) has.0.0 (λ s g. (refl, refl, moved s g)) post)
     where
       moved : (s : Memory) → Passed v w (c ∷ calls) ts rs a s → Stands m v w (hold c (c.held ++ all_kept ts rs) ∷ calls) (puts s (temp (slots_of m.program m.placement c.func) h) (words_at s.words a (suc k)))
       moved s g =
           let n : length (all_leaves ts) ≡ suc k = omega (arith, all_leaves_length ts, many) in
           let st = passing_read m v w c calls s (all_leaves ts) (contents_of rs) a (omega arith) g.0 g.1 in
-          values_put m v w c calls s h ts rs (words_at s.words a (suc k)) hh (omega arith) (subst (λ j. Stand v.homes s.hi w (all_leaves ts) (contents_of rs) (words_at s.words a j)) n st) g.0
+          values_put m v w c calls s h ts rs (words_at s.words a (suc k)) hh (omega arith) (subst (λ j. Stand m.program m.leading v.homes s.hi w (all_leaves ts) (contents_of rs) (words_at s.words a j)) n st) g.0
 
   -- what a call does, where it is known for as many turns
   pub record CallsFollow (callees : Calls) (n : ℕ) : Type 0 where

@@ -12,7 +12,7 @@ use Rattle.typed_syntax.specs.declared.operators.BinOp.{BinOp}
 use Rattle.typed_syntax.specs.declared.operators.BinOp.TheVariants.{Add, Sub, Mul, Div, Rem, And, Or, Xor, AndNot, ShiftLeft, ShiftRight, Equal, NotEqual, Less, LessEqual, Greater, GreaterEqual}
 use Rattle.typed_syntax.specs.declared.operators.UnOp.{UnOp}
 use Rattle.typed_syntax.specs.declared.operators.UnOp.TheVariants.{Plus, Negate, Complement, Not}
-use Rattle.typed_syntax.specs.Types.{TypeTree, PartTypes, ints, bools, struct_of, array_of}
+use Rattle.typed_syntax.specs.Types.{TypeTree, PartTypes, ints, bools, struct_of, array_of, pointer_to, slice_of}
 use Rattle.typed_syntax.specs.Form.{IsPlain, IsArithmetic, IsStep, Takes, TakesOne}
 use Rattle.meaning.specs.Trace.{Fault}
 use Rattle.meaning.specs.Operators.{divide, shift, of_ints, of_bools, binary_of, unary_of}
@@ -136,6 +136,14 @@ pub no_array : (n : ℕ) (e : TypeTree) → IsPlain (array_of n e) → ⊥
 no_array n t (inl e) = true≢false (sym (ap is_plain e))
 no_array n t (inr e) = true≢false (sym (ap is_plain e))
 
+pub no_pointer : (n : ℕ) → IsPlain (pointer_to n) → ⊥
+no_pointer n (inl e) = true≢false (sym (ap is_plain e))
+no_pointer n (inr e) = true≢false (sym (ap is_plain e))
+
+pub no_slice : (n : ℕ) → IsPlain (slice_of n) → ⊥
+no_slice n (inl e) = true≢false (sym (ap is_plain e))
+no_slice n (inr e) = true≢false (sym (ap is_plain e))
+
 -- a number or a truth value is spelled by one word
 pub spelled_once : (t : TypeTree) (v : Value) (x y : ℕ) → IsPlain t → IsOf t v → Spells v x → Spells v y → x ≡ y
 spelled_once ints (int a) x y plain is sx sy = signed_once x y sx.1 sy.1 (sx.0 ∙ sym sy.0)
@@ -144,6 +152,8 @@ spelled_once ints v x y plain is sx sy = absurd is
 spelled_once bools v x y plain is sx sy = absurd is
 spelled_once (struct_of ts) v x y plain is sx sy = absurd (no_struct ts plain)
 spelled_once (array_of n t) v x y plain is sx sy = absurd (no_array n t plain)
+spelled_once (pointer_to n) v x y plain is sx sy = absurd (no_pointer n plain)
+spelled_once (slice_of n) v x y plain is sx sy = absurd (no_slice n plain)
 
 -- an operator of the source on numbers or truth values, and that of the machine on their words
 pub agrees : (op : BinOp) (s t : TypeTree) (v u : Value) (x y : ℕ) → IsPlain s → Takes op s t → IsOf s v → IsOf s u → Spells v x → Spells u y → Agree t (binary_of op v u) (bin_of (operation op) x y)
@@ -158,6 +168,8 @@ agrees op bools t (bool a) u x y plain takes is iu sv su = absurd iu
 agrees op bools t v u x y plain takes is iu sv su = absurd is
 agrees op (struct_of ts) t v u x y plain takes is iu sv su = absurd (no_struct ts plain)
 agrees op (array_of n e) t v u x y plain takes is iu sv su = absurd (no_array n e plain)
+agrees op (pointer_to n) t v u x y plain takes is iu sv su = absurd (no_pointer n plain)
+agrees op (slice_of n) t v u x y plain takes is iu sv su = absurd (no_slice n plain)
 
 -- the word of an operator on one operand
 abbrev pub unary_word : UnOp → ℕ → ℕ
@@ -186,6 +198,8 @@ agrees_one op bools (bool b) x takes is s = one_truth op b x takes s
 agrees_one op bools v x takes is s = absurd is
 agrees_one op (struct_of ts) v x takes is s = absurd (no_struct ts (takes_one op (struct_of ts) takes))
 agrees_one op (array_of n t) v x takes is s = absurd (no_array n t (takes_one op (array_of n t) takes))
+agrees_one op (pointer_to n) v x takes is s = absurd (no_pointer n (takes_one op (pointer_to n) takes))
+agrees_one op (slice_of n) v x takes is s = absurd (no_slice n (takes_one op (slice_of n) takes))
 
 -- the operators of assignments
 pub arithmetic_takes : (op : BinOp) → IsArithmetic op → Takes op ints ints

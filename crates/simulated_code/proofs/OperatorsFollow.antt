@@ -1,6 +1,7 @@
 -- The machine follows an operator.
 use Rattle.std.proofs.Common.{◌≡◌, ℕ, suc, ◌+◌, Some, Result, Ok, Err, refl, ap, ◌∙◌, length}
-use Rattle.std.specs.Prelude.{slice_get, slice_index}
+use Rattle.std.specs.Prelude.{[], slice_get, slice_index}
+use Rattle.simulation.specs.Steps.{Goes}
 use Rattle.typed_syntax.specs.Positions.{Position}
 use Rattle.typed_syntax.specs.Types.{TypeTree}
 use Rattle.typed_syntax.specs.Value.{Value, IsOf}
@@ -13,6 +14,7 @@ use Rattle.meaning.specs.Operators.{binary_of}
 use Rattle.meaning.specs.Meaning
 use Rattle.meaning.specs.Meaning.{Env, Then, Ways}
 use Rattle.isa.specs.Bin.{bin_of}
+use Rattle.isa.specs.declared.instr.MoveEvent.TheVariants.{Silent}
 use Rattle.isa.specs.declared.instr.Instr.TheVariants.{Move, Bin, Un}
 use Rattle.isa.specs.declared.instr.UnOp.TheVariants as WordOne
 use Rattle.isa.specs.declared.instr.BinFault.{BinFault}
@@ -23,6 +25,7 @@ use Rattle.state_relation.specs.Views.{View}
 use Rattle.state_relation.specs.Relation.{Memory, sets}
 use Rattle.state_relation.proofs.Words.{Spells}
 use Rattle.state_relation.proofs.Built.{Built}
+use Rattle.state_relation.proofs.Distances.{put_own}
 use Rattle.state_relation.proofs.Rules.{state_of, seen_from, does_at, At, knowing, stepped, halts}
 use Rattle.simulated_code.proofs.Numbers.{Agree, agrees, spelled_once, unary_word}
 use Rattle.simulated_code.proofs.Standing.{Panics}
@@ -57,7 +60,9 @@ module _ (m : Built) where
 
   -- on the operand in a slot
   pub operates_one : {lo hi b : ℕ} {v : View} {t : Trace} {G G1 : Memory → Type 0} {pc : ℕ} (o : UnOp) (a : ℕ) → slice_get m.code.instrs pc ≡ Some (unary_code o a) → ((u : Memory) → G u → G1 (sets u a (unary_word o (slice_index u.words a)))) → At m lo hi b v t G1 (pc + 1) → At m (suc lo) 1 b v t G pc
-  operates_one {lo = lo} {hi = hi} Plus a here keeps post = stepped m {lo = lo} {hi = hi} (Move a a) (λ u. sets u a (slice_index u.words a)) here (λ u g. (refl, refl, keeps u g)) post
+  operates_one {lo = lo} {hi = hi} {pc = pc} Plus a here keeps post =
+      stepped m {lo = lo} {hi = hi} (Move Silent a a 1) (λ u. sets u a (slice_index u.words a)) here
+      (λ u g. (ap (λ ws. Goes [] (state_of m (pc + 1) (record u { words = ws }))) (put_own u.words a), refl, keeps u g)) post
   operates_one {lo = lo} {hi = hi} Negate a here keeps post = stepped m {lo = lo} {hi = hi} (Un WordOne.Negate a a) (λ u. sets u a (unary_word Negate (slice_index u.words a))) here (λ u g. (refl, refl, keeps u g)) post
   operates_one {lo = lo} {hi = hi} Complement a here keeps post = stepped m {lo = lo} {hi = hi} (Un WordOne.Complement a a) (λ u. sets u a (unary_word Complement (slice_index u.words a))) here (λ u g. (refl, refl, keeps u g)) post
   operates_one {lo = lo} {hi = hi} Not a here keeps post = stepped m {lo = lo} {hi = hi} (Un WordOne.IsZero a a) (λ u. sets u a (unary_word Not (slice_index u.words a))) here (λ u g. (refl, refl, keeps u g)) post

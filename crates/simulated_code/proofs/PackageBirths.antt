@@ -1,10 +1,10 @@
 -- The births of the package variables, with which a program begins.
-use Rattle.std.proofs.Common.{◌≡◌, ◌≢◌, ℕ, zero, suc, ◌+◌, ◌<◌, ◌≤◌, ◌^◌, Bool, true, false, List, [], ◌∷◌, ◌++◌, length, Some, refl, sym, ap, ◌∙◌, subst, arith, get_or, length-append, inl, inr}
-use Rattle.std.specs.Prelude.{slice_get, map, nat_le, ◌==◌, ◌||◌, if◌then◌else◌}
+use Rattle.std.proofs.Common.{◌≡◌, pos, ℕ, zero, suc, ◌+◌, ◌<◌, ◌≤◌, ◌^◌, Bool, true, false, List, [], ◌∷◌, ◌++◌, length, Some, refl, sym, ap, ◌∙◌, subst, arith, get_or, length-append, inl, inr}
+use Rattle.std.specs.Prelude.{slice_get, map, nat_le, if◌then◌else◌}
 use Rattle.std.proofs.lemmas.Bool.Decides.{leb_tells}
 use Rattle.std.proofs.lemmas.List.{length-map, map-append}
 use Rattle.typed_syntax.specs.Types.{TypeTree, ints, width}
-use Rattle.typed_syntax.specs.Value.{Value, Values, int, bool, composite, no_values, more_values, words, IsOf, FitsWords, FitWords}
+use Rattle.typed_syntax.specs.Value.{Value, Values, int, bool, composite, nil_pointer, pointer, nil_slice, slice_in, no_values, more_values, words, IsOf, FitsWords, FitWords, LeadsNowhere, LeadNowhere}
 use Rattle.typed_syntax.specs.Words.{bit_of, word_of, contents, contents_in, words_of, Hold}
 use Rattle.frames.specs.Placement.{Placement}
 use Rattle.typed_syntax.specs.Syntax.{Program, global_type}
@@ -25,7 +25,7 @@ use Rattle.value_laws.proofs.Lists.{held_joined}
 use Rattle.value_laws.proofs.Parts.{count_of, words_count}
 use Rattle.state_relation.specs.Leaves.{leaves}
 use Rattle.state_relation.specs.Views.{View, Range, after_apart, after_stack, distance, out_from}
-use Rattle.state_relation.specs.Relation.{Memory, Good, sites_of, words_before}
+use Rattle.state_relation.specs.Relation.{Memory, to_none, Good, sites_of, words_before}
 use Rattle.state_relation.specs.Alike.{same_event, same_last}
 use Rattle.state_relation.proofs.PackageWords.{no_global, site_is}
 use Rattle.state_relation.proofs.Lists.{get_is}
@@ -40,10 +40,10 @@ abbrev pub AllOn : (ℕ → Bool) → List (ℕ × Value) → Type 0
 AllOn on [] = Unit {0}
 AllOn on (g ∷ gs) = (on g.0 ≡ true) × AllOn on gs
 
--- each begins with a value of its site's type, whose whole numbers are of 64 bits
+-- each begins with a value of its site's type, whose whole numbers are of 64 bits, and which leads to no variable
 abbrev pub AllFit : List TypeTree → List (ℕ × Value) → Type 0
 AllFit sites [] = Unit {0}
-AllFit sites (g ∷ gs) = (IsOf (get_or sites g.0 ints) g.1 × FitsWords g.1) × AllFit sites gs
+AllFit sites (g ∷ gs) = (IsOf (get_or sites g.0 ints) g.1 × FitsWords g.1 × LeadsNowhere g.1) × AllFit sites gs
 
 -- the words of a value hold what it holds
 bit_same : (b : Bool) → bit_of b ≡ Bin.bit_of b
@@ -51,17 +51,21 @@ bit_same true = refl
 bit_same false = refl
 
 mutual
-  words_hold : (v : Value) → FitsWords v → Hold Holds (contents v) (words_of v)
-  words_hold (int z) fits = (number_stands z fits, tt)
-  words_hold (bool b) fits = (bit_same b, tt)
-  words_hold (composite vs) fits = words_hold_in vs fits
+  words_hold : (v : Value) → FitsWords v → LeadsNowhere v → Hold Holds (contents v) (words_of v)
+  words_hold (int z) fits alone = (number_stands z fits, tt)
+  words_hold (bool b) fits alone = (bit_same b, tt)
+  words_hold (composite vs) fits alone = words_hold_in vs fits alone
+  words_hold nil_pointer fits alone = (refl, tt)
+  words_hold (pointer x path) fits alone = absurd alone
+  words_hold nil_slice fits alone = (refl, (number_stands (pos 0) (search arith), (number_stands (pos 0) (search arith), tt)))
+  words_hold (slice_in x path first count room) fits alone = absurd alone
 
-  words_hold_in : (vs : Values) → FitWords vs → Hold Holds (contents_in vs) (map word_of (contents_in vs))
-  words_hold_in no_values fits = tt
-  words_hold_in (more_values v vs) fits =
+  words_hold_in : (vs : Values) → FitWords vs → LeadNowhere vs → Hold Holds (contents_in vs) (map word_of (contents_in vs))
+  words_hold_in no_values fits alone = tt
+  words_hold_in (more_values v vs) fits alone =
       subst (λ ws. Hold Holds (contents v ++ contents_in vs) ws) (sym (map-append word_of (contents v) (contents_in vs)))
-      (held_joined Holds (contents v) (contents_in vs) (words_of v) (map word_of (contents_in vs)) (words_hold v fits.0)
-      (words_hold_in vs fits.1))
+      (held_joined Holds (contents v) (contents_in vs) (words_of v) (map word_of (contents_in vs)) (words_hold v fits.0 alone.0)
+      (words_hold_in vs fits.1 alone.1))
 
 first_long : (t : TypeTree) (v : Value) → IsOf t v → length (words_of v) ≡ width t
 first_long t v is = length-map (contents v) word_of ∙ count_of t v is
@@ -98,15 +102,15 @@ module _ (p : Program) (pl : Placement) (l : Limits) (small : l.heap_max ≤ 2 ^
 
   -- what stands when so many are born
   pub record Begins (i : ℕ) (v : View) (w : World) (heap : List ℕ) : Type 0 where
-    pub good : Good p pl l.stack_max v w [] (store_with heap)
+    pub good : Good p pl l.stack_max to_none v w [] (store_with heap)
     pub count : length w.store ≡ i
     pub before : v.heap ≡ words_before p i
     pub room : length heap ≤ l.heap_max
 
   -- one more is born
-  one_born : (i site : ℕ) (x : Value) (v : View) (w : World) (heap : List ℕ) → slice_get p.globals i ≡ Some (site, x) → i < length p.globals → IsOf (get_or p.sites site ints) x → FitsWords x → length heap + length (words_of x) ≤ l.heap_max
+  one_born : (i site : ℕ) (x : Value) (v : View) (w : World) (heap : List ℕ) → slice_get p.globals i ≡ Some (site, x) → i < length p.globals → IsOf (get_or p.sites site ints) x → FitsWords x → LeadsNowhere x → length heap + length (words_of x) ≤ l.heap_max
       → Begins i v w heap → Begins (suc i) (after_apart v (words x)) (born w (Meaning.new_cell 0 site (Meaning.site_type around site) x)) (heap ++ words_of x)
-  one_born i site x v w heap e lt is fits le g =
+  one_born i site x v w heap e lt is fits alone le g =
       let y = Meaning.new_cell 0 site (Meaning.site_type around site) x in let count = g.count in let used = g.good.sized.heap_used in let before = g.before in
       let kind : y.type ≡ get_or p.sites site ints = ap (λ ts. get_or ts site ints) sites_are in
       let this : (get_or p.globals i no_global).0 ≡ site = ap (λ (q : ℕ × Value). q.0) (get_is p.globals i (site, x) no_global e) in
@@ -117,10 +121,10 @@ module _ (p : Program) (pl : Placement) (l : Limits) (small : l.heap_max ≤ 2 ^
       let step = before_step p.sites (sites_of p.globals) i (omega (arith, length-map p.globals (λ (q : ℕ × Value). q.0))) in
       let step_wide : width (get_or p.sites (get_or (sites_of p.globals) i 0) ints) ≡ width y.type = ap (λ k. width (get_or p.sites k ints)) first ∙ ap width (sym kind) in
       record {
-        good = birth_apart p pl l.stack_max v w [] (store_with heap) (words x) y (words_of x) wide (omega arith) (subst (λ o. IsOf o x) (sym kind) is)
-            (hold_stand v.homes (2 ^ 40 + l.stack_max) w (leaves y.type) (contents x) (words_of x) (value_fits y.type x (subst (λ o. IsOf o x) (sym kind) is)) (held_in (contents x) (words_of x) (words_hold x fits)))
+        good = birth_apart p pl l.stack_max to_none v w [] (store_with heap) (words x) y (words_of x) wide (omega arith) (subst (λ o. IsOf o x) (sym kind) is)
+            (hold_stand p to_none v.homes (2 ^ 40 + l.stack_max) w (leaves y.type) (contents x) (words_of x) (value_fits y.type x (subst (λ o. IsOf o x) (sym kind) is)) (held_in (contents x) (words_of x) (words_hold x fits alone)))
             (λ z. (sym type ∙ ap (λ k. global_type p k) (sym count), before ∙ ap (words_before p) (sym count))) g.good;
-        count = omega (arith, count, born_length p pl l.stack_max w y);
+        count = omega (arith, count, born_length p pl l.stack_max to_none w y);
         before = omega (arith, before, step, step_wide, wide);
         room = omega (arith, length-append heap (words_of x));
       }
@@ -143,7 +147,7 @@ module _ (p : Program) (pl : Placement) (l : Limits) (small : l.heap_max ≤ 2 ^
       (subst (λ c. Follow (if nat_le (have + c) l.heap_max then out_from p pl l v1 range_with t else Run.End (last have (HeapLimit have c l.heap_max))) (λ k. if nat_le (have + n) l.heap_max then begun l.heap_max (heap ++ words_of x) more (λ ws. run ws k) else Run.Ends (full have n))) same
       (elim (leb_tells (have + n) l.heap_max) [
         | inl q ↦ subst (λ z. Follow (if z then out_from p pl l v1 range_with t else Run.End (last have (HeapLimit have n l.heap_max))) (λ k. if z then begun l.heap_max (heap ++ words_of x) more (λ ws. run ws k) else Run.Ends (full have n))) (sym q.0)
-            (globals_follow gs (suc i) v1 u (heap ++ words_of x) behind (omega arith) on.1 fit.1 (one_born i site x v w heap this (omega arith) fit.0.0 fit.0.1 q.1 g) post)
+            (globals_follow gs (suc i) v1 u (heap ++ words_of x) behind (omega arith) on.1 fit.1 (one_born i site x v w heap this (omega arith) fit.0.0 fit.0.1 fit.0.2 q.1 g) post)
         | inr q ↦ subst (λ z. Follow (if z then out_from p pl l v1 range_with t else Run.End (last have (HeapLimit have n l.heap_max))) (λ k. if z then begun l.heap_max (heap ++ words_of x) more (λ ws. run ws k) else Run.Ends (full have n))) (sym q.0)
             (Rules.ended Sight Event Last Stopped same_event (same_last p.strings) {lo = 0} {hi = 0} {b = b} (last have (HeapLimit have n l.heap_max)) (full have n) ((refl, refl, refl), refl) (λ k. refl))
       ])))

@@ -5,7 +5,7 @@ use Rattle.std.specs.Int.{w64, cast_signed}
 use Rattle.std.proofs.lemmas.Bool.{ltb-true, lt-ltb}
 use Rattle.typed_syntax.specs.Positions.{Position}
 use Rattle.typed_syntax.specs.Types.{TypeTree, ints, array_of, width, part_count, part_type, part_offset}
-use Rattle.typed_syntax.specs.Value.{Value, int, bool, composite, IsOf}
+use Rattle.typed_syntax.specs.Value.{Value, int, IsOf}
 use Rattle.typed_syntax.specs.Paths.{at_path, Leads, type_at, offset}
 use Rattle.typed_syntax.specs.Words.{number, contents}
 use Rattle.value_laws.proofs.Parts.{leads_to, at_is, within, element, joined_types}
@@ -17,12 +17,14 @@ use Rattle.meaning.specs.Store.{no_cell, value_of, written}
 use Rattle.meaning.specs.Meaning
 use Rattle.meaning.specs.Meaning.{Env, Then, Ways, Aim, Spot, Step, fixed, worked, variable, element_of}
 use Rattle.simulation.specs.Steps.{Goes}
-use Rattle.isa.specs.declared.instr.Instr.TheVariants.{Const, Load, Store, Address, Index}
+use Rattle.isa.specs.declared.instr.MoveEvent.TheVariants as Moved
+use Rattle.isa.specs.declared.instr.StoreEvent.TheVariants as Stored
+use Rattle.isa.specs.declared.instr.Instr.TheVariants.{Const, Move, Load, Store, Address, Index}
 use Rattle.heap_bump.specs.Words.{first_address}
 use Rattle.machine.specs.declared.run_state.Ending.TheVariants.{Panic as Panicked}
 use Rattle.machine.specs.declared.run_state.Panic.TheVariants.{IndexOutOfRange}
 use Rattle.machine.specs.Machine.{words_at, address_of, element_address, element_at, puts as puts_word}
-use Rattle.program_code.specs.Code.{temp, site_slot, slots_of, moves, index_code, steps_address, index_count, steps_address_size, address_code, address_size, far_offset, fetch_part, fetch_code, land_part, land_code}
+use Rattle.program_code.specs.Code.{temp, site_slot, slots_of, index_code, steps_address, index_count, steps_address_size, address_code, address_size, far_offset, fetch_part, fetch_code, land_part, land_code}
 use Rattle.state_relation.specs.Leaves.{leaves}
 use Rattle.state_relation.specs.Views.{Place, on_stack, on_heap, View}
 use Rattle.state_relation.specs.Relation.{Memory, sets, puts, part_place, set_place, Kept, word, address, Frame, hold, address_in, word_at, depth, words_before, Stand, StandsKept, Reaches, NamedAt}
@@ -33,7 +35,7 @@ use Rattle.state_relation.proofs.Relation.{site_inside}
 use Rattle.state_relation.proofs.Changes.{kept_word, good_kept, good_set, home_value}
 use Rattle.state_relation.proofs.Births.{home_write}
 use Rattle.state_relation.proofs.Built.{Built}
-use Rattle.state_relation.proofs.Rules.{state_of, does_at, seen_from, range_of, At, Stands, knowing, later, place_is, given, turned, stepped, halts, moved_by, stays_here}
+use Rattle.state_relation.proofs.Rules.{state_of, does_at, seen_from, range_of, At, Stands, knowing, later, place_is, given, turned, stepped, halts, stays_here}
 use Rattle.state_relation.proofs.Values.{kept, all_kept, value_put, fewer, held_none, held_stand, held_room}
 use Rattle.state_relation.proofs.Touches.{reached_by, address_small, loaded, stored}
 use Rattle.simulated_code.proofs.Standing.{Standing, Panics}
@@ -44,10 +46,12 @@ use Rattle.simulated_code.proofs.Standing.{Standing, Panics}
 abbrev pub variable_of : Env → Pl → ℕ
 variable_of env (local site steps) = env site
 variable_of env (global g steps) = g
+variable_of env q = 0
 
 abbrev pub steps_of : Pl → Steps
 steps_of (local site steps) = steps
 steps_of (global g steps) = steps
+steps_of q = itself
 
 -- values for the indices among steps
 abbrev pub Operands : Steps → List Value → Type 0
@@ -113,20 +117,24 @@ module _ (m : Built) where
   abbrev pub Located : List ℕ → TypeTree → Pl → Type 0
   Located scope t (local site steps) = InScope site scope × Shaped (site_type m.program site) steps t × (0 < width t)
   Located scope t (global g steps) = (g < length m.program.globals) × Shaped (global_type m.program g) steps t × (0 < width t)
+  Located scope t q = ⊥
 
   pub located : (scope : List ℕ) (t : TypeTree) (q : Pl) → PlFits m.program scope t q → Located scope t q
   located scope t (local site steps) fit = (fit.0, steps_shape scope (site_type m.program site) t steps fit.1, fit.2)
   located scope t (global g steps) fit = (fit.0, steps_shape scope (global_type m.program g) t steps fit.1, fit.2)
+  located scope t q fit = absurd fit
 
   -- the type of a place's variable
   abbrev pub own_type : Pl → TypeTree
   own_type (local site steps) = site_type m.program site
   own_type (global g steps) = global_type m.program g
+  own_type q = ints
 
   -- what its address lacks of the words before the part, where there is one
   abbrev pub lacks_of : Pl → ℕ
   lacks_of (local site steps) = far_offset (site_type m.program site) steps
   lacks_of (global g steps) = offset (global_type m.program g) (path_of steps)
+  lacks_of q = 0
 
   -- the address of a part is held, where there is one
   abbrev pub held_by : (far : ℕ) → TypeTree → (x : ℕ) → (path : List ℕ) → (lacks : ℕ) → List Kept
@@ -153,8 +161,8 @@ module _ (m : Built) where
   pub site_home : (c : Frame) (calls : List Frame) (v : View) (w : World) (s : Memory) (site : ℕ) → InScope site c.scope → Stands m v w (c ∷ calls) s → Home v w (c.env site) (site_type m.program site)
   site_home c calls v w s site i g =
       let d = depth m.program m.placement (c ∷ calls) - site_slot (slots_of m.program m.placement c.func) site in
-      let name : NamedAt m.program m.placement (c ∷ calls) (c.env site) d (site_type m.program site) = inl (site, i, refl, refl, refl, stays_here m c calls v w s site (g.homed.owned.0.among site i).0 (g.homed.owned.0.among site i).1 g) in
-      let r = g.homed.named (c.env site) d (site_type m.program site) name in
+      let name : NamedAt m.program m.placement (c ∷ calls) (c.env site) d false (site_type m.program site) = inl (site, i, refl, refl, refl, stays_here m c calls v w s site (g.homed.owned.0.among site i).0 (g.homed.owned.0.among site i).1 g) in
+      let r = g.homed.named (c.env site) d false (site_type m.program site) name in
       record { cell = r.0; there = r.1; kind = r.2; place = on_stack d; home = g.homed.slots (c.env site) d (site_type m.program site) name }
 
   pub global_home : (c : Frame) (calls : List Frame) (v : View) (w : World) (s : Memory) (q : ℕ) → q < length m.program.globals → Stands m v w (c ∷ calls) s → Home v w q (global_type m.program q)
@@ -165,22 +173,23 @@ module _ (m : Built) where
   pub place_home : (scope : List ℕ) (t : TypeTree) (q : Pl) (c : Frame) (calls : List Frame) (v : View) (w : World) (s : Memory) → c.scope ≡ scope → Located scope t q → Stands m v w (c ∷ calls) s → Home v w (variable_of c.env q) (own_type q)
   place_home scope t (local site steps) c calls v w s e fit g = site_home c calls v w s site (subst (InScope site) (sym e) fit.0) g
   place_home scope t (global q steps) c calls v w s e fit g = global_home c calls v w s q fit.0 g
+  place_home scope t q c calls v w s e fit g = absurd fit
 
   -- what is held last stands for something else
-  pub good_last : (v : View) (w : World) (c : Frame) (calls : List Frame) (s : Memory) (k k1 : Kept) (at : ℕ) → length c.held ≡ at → StandsKept v.homes s.hi w k1 (slice_index s.words (temp (slots_of m.program m.placement c.func) at))
+  pub good_last : (v : View) (w : World) (c : Frame) (calls : List Frame) (s : Memory) (k k1 : Kept) (at : ℕ) → length c.held ≡ at → StandsKept m.program m.leading v.homes s.hi w k1 (slice_index s.words (temp (slots_of m.program m.placement c.func) at))
       → Stands m v w (hold c (c.held ++ k ∷ []) ∷ calls) s → Stands m v w (hold c (c.held ++ k1 ∷ []) ∷ calls) s
   good_last v w c calls s k k1 at ha stands g =
       let room = g.homed.owned.0.room in
-      good_kept m.program m.placement m.max v w (hold c (c.held ++ k ∷ [])) calls s (c.held ++ k1 ∷ []) (omega (arith, length-append c.held (k ∷ []), length-append c.held (k1 ∷ []))) now g
+      good_kept m.program m.placement m.max m.leading v w (hold c (c.held ++ k ∷ [])) calls s (c.held ++ k1 ∷ []) (omega (arith, length-append c.held (k ∷ []), length-append c.held (k1 ∷ []))) now g
     where
-      now : (i : ℕ) (j : Kept) → i < temps_of m.program m.placement c.func → slice_get (c.held ++ k1 ∷ []) i ≡ Some j → StandsKept v.homes s.hi w j (word_at s.words (depth m.program m.placement (c ∷ calls) - (outgoing_of m.program c.func + i)))
+      now : (i : ℕ) (j : Kept) → i < temps_of m.program m.placement c.func → slice_get (c.held ++ k1 ∷ []) i ≡ Some j → StandsKept m.program m.leading v.homes s.hi w j (word_at s.words (depth m.program m.placement (c ∷ calls) - (outgoing_of m.program c.func + i)))
       now i j lt e = elim (append_cases c.held (k1 ∷ []) j i e) [
         | inl old ↦ g.framed.kept (depth m.program m.placement (c ∷ calls) - (outgoing_of m.program c.func + i)) j (inl (i, lt, refl, append_old c.held (k ∷ []) j i old))
         | inr (n, q, new) ↦
             let o = one_item k1 j n new in let u = g.sized.used in
             let there : outgoing_of m.program c.func + at ≡ outgoing_of m.program c.func + i = omega (arith, q, o.0) in
-            subst (λ a. StandsKept v.homes s.hi w a (word_at s.words (depth m.program m.placement (c ∷ calls) - (outgoing_of m.program c.func + i)))) o.1
-            (subst (λ a. StandsKept v.homes s.hi w k1 a) (ap (slice_index s.words) there ∙ sym (word_slot s.words (depth m.program m.placement (c ∷ calls)) (outgoing_of m.program c.func + i) u (omega arith))) stands)
+            subst (λ a. StandsKept m.program m.leading v.homes s.hi w a (word_at s.words (depth m.program m.placement (c ∷ calls) - (outgoing_of m.program c.func + i)))) o.1
+            (subst (λ a. StandsKept m.program m.leading v.homes s.hi w k1 a) (ap (slice_index s.words) there ∙ sym (word_slot s.words (depth m.program m.placement (c ∷ calls)) (outgoing_of m.program c.func + i) u (omega arith))) stands)
       ]
 
   -- ---- the checks of a place, from its operands to its address
@@ -198,7 +207,7 @@ module _ (m : Built) where
     reaches t path lacks s g =
         let last : slice_get (c.held ++ address t x path lacks ∷ []) at ≡ Some (address t x path lacks) =
         (let z : at ≡ length c.held + 0 = omega arith in ap (slice_get (c.held ++ address t x path lacks ∷ [])) z ∙ append_new c.held (address t x path lacks ∷ []) 0) in
-        kept_word m.program m.placement m.max v w (hold c (c.held ++ address t x path lacks ∷ [])) calls s at (address t x path lacks) last g
+        kept_word m.program m.placement m.max m.leading v w (hold c (c.held ++ address t x path lacks ∷ [])) calls s at (address t x path lacks) last g
 
     own_is : (t : TypeTree) (path : List ℕ) (lacks u : ℕ) (s : Memory) (r : Reaches v.homes s.hi w t x path lacks u) → r.cell.type ≡ own
     own_is t path lacks u s r = ap (λ (k : Cell). k.type) (some_same (sym r.there ∙ h.there)) ∙ h.kind
@@ -210,7 +219,7 @@ module _ (m : Built) where
     -- another address takes its place
     replaced : (t r : TypeTree) (path path1 : List ℕ) (lacks lacks1 u : ℕ) (s : Memory) → Reaches v.homes s.hi w r x path1 lacks1 u → Reached t path lacks s → Reached r path1 lacks1 (sets s slot u)
     replaced t r path path1 lacks lacks1 u s there g =
-        good_set m.program m.placement m.max v w (hold c c.held) calls s at u (address r x path1 lacks1) ha room there (fewer m v w c calls s c.held (address t x path lacks ∷ []) g)
+        good_set m.program m.placement m.max m.leading v w (hold c c.held) calls s at u (address r x path1 lacks1) ha room there (fewer m v w c calls s c.held (address t x path lacks ∷ []) g)
 
     module _ (t r : TypeTree) (n : ℕ) (path : List ℕ) (lacks first pc : ℕ) (is : t ≡ array_of n r) (leads : Leads own path t) (here : slice_get m.code.instrs pc ≡ Some (Index slot slot (temp (slots_of m.program m.placement c.func) first) n (width r))) where
       abbrev base_of : Memory → ℕ
@@ -246,7 +255,7 @@ module _ (m : Built) where
           → does_at m (Index slot slot (temp (slots_of m.program m.placement c.func) first) n (width r)) pc s ≡ element_at (state_of m pc s) slot z n (element_address (base_of s) z n (width r))
       does z held s g =
           let a = reaches t path lacks s g in let f = a.at h.place h.home in let top = small t path lacks (base_of s) s g a in
-          let index = kept_word m.program m.placement m.max v w (hold c (c.held ++ address t x path lacks ∷ [])) calls s first (word ints (number z)) (append_old c.held (address t x path lacks ∷ []) (word ints (number z)) first held) g in
+          let index = kept_word m.program m.placement m.max m.leading v w (hold c (c.held ++ address t x path lacks ∷ [])) calls s first (word ints (number z)) (append_old c.held (address t x path lacks ∷ []) (word ints (number z)) first held) g in
           let read = cast_signed w64 (slice_index s.words (temp (slots_of m.program m.placement c.func) first)) in
           reached_by (state_of m pc s) (base_of s) 0 (base_of s) (λ y. element_at (state_of m pc s) slot read n (element_address y read n (width r))) a.some (omega arith) (omega arith)
           ∙ ap (λ i. element_at (state_of m pc s) slot i n (element_address (base_of s) i n (width r))) index.0
@@ -308,8 +317,6 @@ module _ (m : Built) where
         let sum : lacks + (part_offset t i + offset (part_type t i) (path_of steps)) ≡ lacks + part_offset t i + offset (part_type t i) (path_of steps) = omega arith in
         subst (λ n. At m (12 + lo) 1 b v (k (spot_at path1) w) (Reached s path1 n) (pc + index_count steps)) sum (post path1 leads1)))
     indexed k (at_index p e n steps) [] gone more t s path first lacks pc shape ops eq hg leads has post = absurd ops
-    indexed k (at_index p e n steps) (bool z ∷ vs) gone more t s path first lacks pc shape ops eq hg leads has post = absurd ops.0
-    indexed k (at_index p e n steps) (composite xs ∷ vs) gone more t s path first lacks pc shape ops eq hg leads has post = absurd ops.0
     indexed k (at_index p e n steps) (int z ∷ vs) gone more t s path first lacks pc (r, is, some, shape) ops eq hg leads has post =
         let first_type : part_type t 0 ≡ r = (element_leads t r n 0 is some).1 in let none = first_offset t r n is some in
         let there = temp (slots_of m.program m.placement c.func) first in
@@ -327,6 +334,7 @@ module _ (m : Built) where
         let rest : lacks + (part_offset t 0 + offset (part_type t 0) (path_of steps)) ≡ lacks + offset r (path_of steps) = (let q = ap (λ u. offset u (path_of steps)) first_type in omega (arith, none, q)) in
         let q : pc + suc (index_count steps) ≡ pc + 1 + index_count steps = omega arith in
         place_is m q (subst (λ j. At m (12 + lo) 1 b v (k (spot_at path1) w) (Reached s path1 j) (pc + suc (index_count steps))) rest (post path1 leads1)))) z held))
+    indexed k (at_index p e n steps) (y ∷ vs) gone more t s path first lacks pc shape ops eq hg leads has post = absurd ops.0
 
   -- a variable of a site, from its beginning
   module _ (c : Frame) (calls : List Frame) (v : View) (w : World) (site : ℕ) (scoped : InScope site c.scope) (at : ℕ) (ha : length c.held ≡ at) where
@@ -339,7 +347,7 @@ module _ (m : Built) where
     -- a part of it, by its address
     pub addressed : (path : List ℕ) (s : TypeTree) (front : ℕ) (u : Memory) → Leads own_site path s → front ≡ front_slot + offset own_site path → at < temps_of m.program m.placement c.func → Stands m v w (c ∷ calls) u
         → Stands m v w (hold c (c.held ++ address s (c.env site) path 0 ∷ []) ∷ calls) (sets u (temp (slots_of m.program m.placement c.func) at) (address_of u.hi (length u.words - front)))
-    addressed path s front u leads begins room g = good_set m.program m.placement m.max v w c calls u at (address_of u.hi (length u.words - front)) (address s (c.env site) path 0) ha room there g
+    addressed path s front u leads begins room g = good_set m.program m.placement m.max m.leading v w c calls u at (address_of u.hi (length u.words - front)) (address s (c.env site) path 0) ha room there g
       where
         there : Reaches v.homes u.hi w s (c.env site) path 0 (address_of u.hi (length u.words - front))
         there =
@@ -399,7 +407,7 @@ module _ (m : Built) where
       (knowing m (λ s0 k0.
       let h = global_home c calls v w s0 g0 fit.0 k0 in
       stepped m {lo = 12 + lo} {hi = 0} (Const (temp s at) word) (λ u. sets u (temp s at) word) has.0.0
-      (λ u g. (refl, refl, good_set m.program m.placement m.max v w c calls u at word (address own g0 [] 0) ha (omega arith) (start u g) g))
+      (λ u g. (refl, refl, good_set m.program m.placement m.max m.leading v w c calls u at word (address own g0 [] 0) ha (omega arith) (start u g) g))
       (indexed c calls v w ws stops env g0 own h at lo b ha (omega arith) k steps vs gone more own t [] first 0 (pc + 1) fit.1 ops e hg refl
       (subst (λ u. Standing m.code c.fn (pc + 1) (index_code s u steps first at)) (type_is m.program m.placement c.func g0) has.1) (λ path1 leads1.
       let q : pc + suc (index_count steps) ≡ pc + 1 + index_count steps = omega arith in let none : 0 + offset own (path_of steps) ≡ offset own (path_of steps) = omega arith in
@@ -417,6 +425,7 @@ module _ (m : Built) where
             at = λ q hq. let same : on_heap (words_before m.program g0) ≡ q = some_same (sym (g.homed.globals g0 fit.0 (let b = g.homed.begun in omega arith)).3 ∙ hq) in
                 subst (λ o. first_address + words_before m.program g0 + 0 ≡ address_in u.hi o + 0) same (omega arith);
           }
+  settled_follow q t vs gone more c calls ws env env0 k v w first at pc lo b stops fit same ops e hg ha room has post = absurd fit
 
   -- ---- what a place has, and what it gets
 
@@ -430,7 +439,7 @@ module _ (m : Built) where
 
   -- where words are that are held by another name
   held_again : (c : Frame) (calls : List Frame) (v : View) (w : World) (held : List Kept) (s : Memory) → c.held ≡ held → Stands m v w (c ∷ calls) s → Stands m v w (hold c held ∷ calls) s
-  held_again c calls v w held s e g = subst (λ l. Stands m v w (hold c l ∷ calls) s) e (good_kept m.program m.placement m.max v w c calls s c.held g.homed.owned.0.room (λ i k l f. g.framed.kept (depth m.program m.placement (c ∷ calls) - (outgoing_of m.program c.func + i)) k (inl (i, l, refl, f))) g)
+  held_again c calls v w held s e g = subst (λ l. Stands m v w (hold c l ∷ calls) s) e (good_kept m.program m.placement m.max m.leading v w c calls s c.held g.homed.owned.0.room (λ i k l f. g.framed.kept (depth m.program m.placement (c ∷ calls) - (outgoing_of m.program c.func + i)) k (inl (i, l, refl, f))) g)
 
   -- what the instruction does that reads a place
   fetch_does : (q : Pl) (t : TypeTree) (path : List ℕ) (c : Frame) (calls : List Frame) (base gone : List Kept) (v : View) (w : World) (at h pc : ℕ) → Located c.scope t q → LeadsTo t q path → ((n : ℕ) → far q ≡ suc n → slice_get (base ++ gone) at ≡ Some (address t (variable_of c.env q) path (lacks_of q)))
@@ -452,13 +461,12 @@ module _ (m : Built) where
           let inside = site_inside m.program m.placement c.func site stays among.0 among.1 in let ends = within own t path leads.0 in
           let used = g.sized.used in let straight = leads.1 (sym e) in let slot = site_slot (slots_of m.program m.placement c.func) site in
           let from : slot + offset own path ≡ length s.words - (depth m.program m.placement (c ∷ calls) - slot - offset own path) = omega (arith, inside.1, inside.0) in
-          ap (λ n. does_at m (moves n (temp (slots_of m.program m.placement c.func) h) (slot + offset own (path_of steps))) pc s) wide
-          ∙ ap (λ r. does_at m (moves (width t) (temp (slots_of m.program m.placement c.func) h) (slot + offset own r)) pc s) (sym straight)
-          ∙ moved_by m (width t) (temp (slots_of m.program m.placement c.func) h) (slot + offset own path) pc s fit.2 (omega (arith, inside.1, inside.0)) (omega (arith, inside.1, inside.0))
+          ap (λ n. does_at m (Move Moved.Read (temp (slots_of m.program m.placement c.func) h) (slot + offset own (path_of steps)) n) pc s) wide
+          ∙ ap (λ r. does_at m (Move Moved.Read (temp (slots_of m.program m.placement c.func) h) (slot + offset own r) (width t)) pc s) (sym straight)
           ∙ ap (λ n. Goes [] (state_of m (pc + 1) (puts s (temp (slots_of m.program m.placement c.func) h) (words_at s.words n (width t))))) from
           ∙ ap (λ (r : Place). Goes [] (state_of m (pc + 1) (puts s (temp (slots_of m.program m.placement c.func) h) (part_place s r (offset own path) (width t))))) there1
       by (suc n) e =
-          let a = kept_word m.program m.placement m.max v w (hold c (base ++ gone)) calls s at (address t (c.env site) path (far_offset own steps)) (there n (sym e)) g in
+          let a = kept_word m.program m.placement m.max m.leading v w (hold c (base ++ gone)) calls s at (address t (c.env site) path (far_offset own steps)) (there n (sym e)) g in
           let kind : a.cell.type ≡ own = ap (λ (o : Cell). o.type) (some_same (sym a.there ∙ k.there)) ∙ k.kind in
           ap (λ j. does_at m (Load (temp (slots_of m.program m.placement c.func) h) (temp (slots_of m.program m.placement c.func) at) (far_offset own steps) j) pc s) wide
           ∙ loaded m v w (hold c (base ++ gone) ∷ calls) s g (c.env site) t path (far_offset own steps) (slice_index s.words (temp (slots_of m.program m.placement c.func) at)) k.place k.home a pc (temp (slots_of m.program m.placement c.func) h) (temp (slots_of m.program m.placement c.func) at) refl
@@ -467,12 +475,13 @@ module _ (m : Built) where
       let own = global_type m.program g0 in let sl = slots_of m.program m.placement c.func in
       let same = type_is m.program m.placement c.func g0 in
       let wide : width (type_at own (path_of steps)) ≡ width t = ap width (leads_to own t (path_of steps) (shaped_leads own t steps fit.1)) in
-      let a = kept_word m.program m.placement m.max v w (hold c (base ++ gone)) calls s at (address t g0 path (offset own (path_of steps))) (there 0 refl) g in
+      let a = kept_word m.program m.placement m.max m.leading v w (hold c (base ++ gone)) calls s at (address t g0 path (offset own (path_of steps))) (there 0 refl) g in
       let kind : a.cell.type ≡ own = ap (λ (o : Cell). o.type) (some_same (sym a.there ∙ k.there)) ∙ k.kind in
       ap (λ o. does_at m (Load (temp sl h) (temp sl at) (offset o (path_of steps)) (width (type_at o (path_of steps)))) pc s) same
       ∙ ap (λ j. does_at m (Load (temp sl h) (temp sl at) (offset own (path_of steps)) j) pc s) wide
       ∙ loaded m v w (hold c (base ++ gone) ∷ calls) s g g0 t path (offset own (path_of steps)) (slice_index s.words (temp sl at)) k.place k.home a pc (temp sl h) (temp sl at) refl
       ∙ ap (λ o. Goes [] (state_of m (pc + 1) (puts s (temp sl h) (part_place s k.place (offset o path) (width t))))) kind
+  fetch_does q t path c calls base gone v w at h pc fit leads there hh room k s g = absurd fit
 
   -- and the one that writes it
   land_does : (q : Pl) (t : TypeTree) (path : List ℕ) (c : Frame) (calls : List Frame) (gone more : List Kept) (x : Value) (v : View) (w : World) (at h pc : ℕ) → Located c.scope t q → LeadsTo t q path → ((n : ℕ) → far q ≡ suc n → slice_get c.held at ≡ Some (address t (variable_of c.env q) path (lacks_of q)))
@@ -495,27 +504,27 @@ module _ (m : Built) where
           let used = g.sized.used in let straight = leads.1 (sym f) in let slot = site_slot (slots_of m.program m.placement c.func) site in
           let room = held_room m v w c calls s gone more t x h (width t) hg refl (held_again c calls v w (gone ++ (kept t x ++ more)) s e g) in
           let from : slot + offset own path ≡ length s.words - (depth m.program m.placement (c ∷ calls) - slot - offset own path) = omega (arith, inside.1, inside.0) in
-          ap (λ n. does_at m (moves n (slot + offset own (path_of steps)) (temp (slots_of m.program m.placement c.func) h)) pc s) wide
-          ∙ ap (λ r. does_at m (moves (width t) (slot + offset own r) (temp (slots_of m.program m.placement c.func) h)) pc s) (sym straight)
-          ∙ moved_by m (width t) (slot + offset own path) (temp (slots_of m.program m.placement c.func) h) pc s fit.2 (omega (arith, inside.1, inside.0)) room
+          ap (λ n. does_at m (Move Moved.Write (slot + offset own (path_of steps)) (temp (slots_of m.program m.placement c.func) h) n) pc s) wide
+          ∙ ap (λ r. does_at m (Move Moved.Write (slot + offset own r) (temp (slots_of m.program m.placement c.func) h) (width t)) pc s) (sym straight)
           ∙ ap (λ n. Goes [] (state_of m (pc + 1) (puts s n (words_at s.words (temp (slots_of m.program m.placement c.func) h) (width t))))) from
           ∙ ap (λ (r : Place). Goes [] (state_of m (pc + 1) (set_place s r (offset own path) (words_at s.words (temp (slots_of m.program m.placement c.func) h) (width t))))) there1
       by (suc n) f =
-          let a = kept_word m.program m.placement m.max v w c calls s at (address t (c.env site) path (far_offset own steps)) (there n (sym f)) g in
+          let a = kept_word m.program m.placement m.max m.leading v w c calls s at (address t (c.env site) path (far_offset own steps)) (there n (sym f)) g in
           let kind : a.cell.type ≡ own = ap (λ (o : Cell). o.type) (some_same (sym a.there ∙ k.there)) ∙ k.kind in
-          ap (λ j. does_at m (Store (temp (slots_of m.program m.placement c.func) at) (far_offset own steps) (temp (slots_of m.program m.placement c.func) h) j) pc s) wide
-          ∙ stored m v w (c ∷ calls) s g (c.env site) t path (far_offset own steps) (slice_index s.words (temp (slots_of m.program m.placement c.func) at)) k.place k.home a pc (temp (slots_of m.program m.placement c.func) at) (temp (slots_of m.program m.placement c.func) h) refl
+          ap (λ j. does_at m (Store Stored.Write (temp (slots_of m.program m.placement c.func) at) (far_offset own steps) (temp (slots_of m.program m.placement c.func) h) j) pc s) wide
+          ∙ stored m v w (c ∷ calls) s g (c.env site) t path (far_offset own steps) (slice_index s.words (temp (slots_of m.program m.placement c.func) at)) k.place k.home a Stored.Write pc (temp (slots_of m.program m.placement c.func) at) (temp (slots_of m.program m.placement c.func) h) refl
           ∙ ap (λ o. Goes [] (state_of m (pc + 1) (set_place s k.place (offset o path) (words_at s.words (temp (slots_of m.program m.placement c.func) h) (width t))))) kind
   land_does (global g0 steps) t path c calls gone more x v w at h pc fit leads there e hg k s g =
       let own = global_type m.program g0 in let sl = slots_of m.program m.placement c.func in
       let same = type_is m.program m.placement c.func g0 in
       let wide : width (type_at own (path_of steps)) ≡ width t = ap width (leads_to own t (path_of steps) (shaped_leads own t steps fit.1)) in
-      let a = kept_word m.program m.placement m.max v w c calls s at (address t g0 path (offset own (path_of steps))) (there 0 refl) g in
+      let a = kept_word m.program m.placement m.max m.leading v w c calls s at (address t g0 path (offset own (path_of steps))) (there 0 refl) g in
       let kind : a.cell.type ≡ own = ap (λ (o : Cell). o.type) (some_same (sym a.there ∙ k.there)) ∙ k.kind in
-      ap (λ o. does_at m (Store (temp sl at) (offset o (path_of steps)) (temp sl h) (width (type_at o (path_of steps)))) pc s) same
-      ∙ ap (λ j. does_at m (Store (temp sl at) (offset own (path_of steps)) (temp sl h) j) pc s) wide
-      ∙ stored m v w (c ∷ calls) s g g0 t path (offset own (path_of steps)) (slice_index s.words (temp sl at)) k.place k.home a pc (temp sl at) (temp sl h) refl
+      ap (λ o. does_at m (Store Stored.Write (temp sl at) (offset o (path_of steps)) (temp sl h) (width (type_at o (path_of steps)))) pc s) same
+      ∙ ap (λ j. does_at m (Store Stored.Write (temp sl at) (offset own (path_of steps)) (temp sl h) j) pc s) wide
+      ∙ stored m v w (c ∷ calls) s g g0 t path (offset own (path_of steps)) (slice_index s.words (temp sl at)) k.place k.home a Stored.Write pc (temp sl at) (temp sl h) refl
       ∙ ap (λ o. Goes [] (state_of m (pc + 1) (set_place s k.place (offset o path) (words_at s.words (temp sl h) (width t))))) kind
+  land_does q t path c calls gone more x v w at h pc fit leads there e hg k s g = absurd fit
 
   -- the value of a place goes to temps from h on, after what stays
   pub fetched : (q : Pl) (t : TypeTree) (path : List ℕ) (c : Frame) (calls : List Frame) (base gone : List Kept) (v : View) (w : World) (at h pc lo hi b : ℕ) (rest : Trace) → slice_get m.code.instrs pc ≡ Some (fetch_code (slots_of m.program m.placement c.func) q at h) → Located c.scope t q → LeadsTo t q path
@@ -533,10 +542,10 @@ module _ (m : Built) where
       put_there : (k : Home v w (variable_of c.env q) (own_type q)) (s : Memory) → Stands m v w (hold c (base ++ gone) ∷ calls) s
           → Stands m v w (hold c (base ++ kept t (at_path (value_of w (variable_of c.env q)) path)) ∷ calls) (puts s (temp (slots_of m.program m.placement c.func) h) (part_place s k.place (offset (own_type q) path) (width t)))
       put_there k s g =
-          let st = home_value m.program m.placement m.max v w (hold c (base ++ gone) ∷ calls) s (variable_of c.env q) k.cell k.place path t k.there k.home (subst (λ o. Leads o path t) (sym k.kind) leads.0) g in
+          let st = home_value m.program m.placement m.max m.leading v w (hold c (base ++ gone) ∷ calls) s (variable_of c.env q) k.cell k.place path t k.there k.home (subst (λ o. Leads o path t) (sym k.kind) leads.0) g in
           value_put m v w (hold c base) calls s h t (at_path (value_of w (variable_of c.env q)) path) (part_place s k.place (offset (own_type q) path) (width t)) hh room
-          (subst (λ o. Stand v.homes s.hi w (leaves t) (contents (at_path (value_of w (variable_of c.env q)) path)) (part_place s k.place (offset o path) (width t))) k.kind
-          (subst (λ y. Stand v.homes s.hi w (leaves t) (contents (at_path y path)) (part_place s k.place (offset k.cell.type path) (width t))) (sym (value_is (variable_of c.env q) (own_type q) v w k)) st))
+          (subst (λ o. Stand m.program m.leading v.homes s.hi w (leaves t) (contents (at_path (value_of w (variable_of c.env q)) path)) (part_place s k.place (offset o path) (width t))) k.kind
+          (subst (λ y. Stand m.program m.leading v.homes s.hi w (leaves t) (contents (at_path y path)) (part_place s k.place (offset k.cell.type path) (width t))) (sym (value_is (variable_of c.env q) (own_type q) v w k)) st))
           (fewer m v w c calls s base gone g)
 
   -- a place gets the value in temps from h on
@@ -562,4 +571,4 @@ module _ (m : Built) where
           let xs = words_at s.words (temp (slots_of m.program m.placement c.func) h) (width t) in
           let st = held_stand m v w c calls s gone more t x h (width t) hg refl held in
           subst (λ o. Stands m v (written w (variable_of c.env q) path x) (c ∷ calls) (set_place s k.place (offset o path) xs)) k.kind
-          (home_write m.program m.placement m.max v w (c ∷ calls) s (variable_of c.env q) k.cell path t x xs k.there (subst (λ o. Leads o path t) (sym k.kind) leads.0) typed st g k.place k.home)
+          (home_write m.program m.placement m.max m.leading v w (c ∷ calls) s (variable_of c.env q) k.cell path t x xs k.there (subst (λ o. Leads o path t) (sym k.kind) leads.0) typed st g k.place k.home)

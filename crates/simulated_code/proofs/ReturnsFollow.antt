@@ -12,9 +12,11 @@ use Rattle.meaning.specs.Trace.{Exit, Return as Returned, World, Note, End}
 use Rattle.meaning.specs.Store.{value_of, written}
 use Rattle.meaning.specs.Meaning
 use Rattle.meaning.specs.Meaning.{Env, Go, Then}
-use Rattle.isa.specs.declared.instr.Instr.TheVariants.{Return, SetResults}
+use Rattle.isa.specs.declared.instr.Direction.TheVariants.{FromSlots}
+use Rattle.isa.specs.declared.instr.MoveEvent.TheVariants.{Read, Write}
+use Rattle.isa.specs.declared.instr.Instr.TheVariants.{Return, Incoming, Move}
 use Rattle.machine.specs.Machine.{words_at, owner_of}
-use Rattle.program_code.specs.Code.{temp, site_slot, slots_of, moves, result_code, named_write_code, named_read_code, named_read_size, values_code, leave_code}
+use Rattle.program_code.specs.Code.{temp, site_slot, slots_of, result_code, named_write_code, named_read_code, named_read_size, values_code, leave_code}
 use Rattle.program_code.proofs.Sizes.{length_named_write, length_named_read}
 use Rattle.state_relation.specs.Leaves.{leaves, all_leaves}
 use Rattle.state_relation.specs.Views.{View}
@@ -29,7 +31,7 @@ use Rattle.state_relation.proofs.Calls.{Passing, Linked, passing_put_above, good
 use Rattle.simulated_code.proofs.Standing.{Standing, front, back}
 use Rattle.simulated_code.proofs.Reached.{landed}
 use Rattle.simulated_code.proofs.Temps.{last_stand, words_moved}
-use Rattle.simulated_code.proofs.Births.{site_stand, site_typed, site_room}
+use Rattle.simulated_code.proofs.Births.{site_stand, site_typed}
 use Rattle.simulated_code.proofs.Moves.{Passed, room_of, passing_joined, passing_kept}
 
 -- no values of no types
@@ -60,7 +62,7 @@ module _ (m : Built) where
   leave_end c calls k v w rs n pc lo b here own from room home typed = turned m {lo1 = suc lo} (omega arith) (seen m _ (goes_home c calls k v w rs pc lo b here own from room home typed))
 
   -- words are set in the outgoing area of the call above, if there is one
-  set_above : (calls : List Frame) (c : Frame) (v : View) (w : World) (s : Memory) (ls : List TypeTree) (cs : List Content) (a : ℕ) (xs : List ℕ) → 0 < length ls → a + length ls ≤ room_of m calls → Stand v.homes s.hi w ls cs xs → Stands m v w (c ∷ calls) s
+  set_above : (calls : List Frame) (c : Frame) (v : View) (w : World) (s : Memory) (ls : List TypeTree) (cs : List Content) (a : ℕ) (xs : List ℕ) → 0 < length ls → a + length ls ≤ room_of m calls → Stand m.program m.leading v.homes s.hi w ls cs xs → Stands m v w (c ∷ calls) s
       → Stands m v w (c ∷ calls) (puts s (frame_of m.program m.placement c.func + a) xs) × Passing m v w calls ls cs a (puts s (frame_of m.program m.placement c.func + a) xs) × (frame_of m.program m.placement c.func + a + length ls ≤ length s.words)
   set_above [] c v w s ls cs a xs some room st g = absurd (omega arith)
   set_above (up ∷ rest) c v w s ls cs a xs some room st g = let long = st.long in (
@@ -80,7 +82,7 @@ module _ (m : Built) where
       let held = λ (s : Memory) (g : Stands m v w (hold c (c.held ++ ks) ∷ calls) s). values_stand m v w c calls s c.held c.func.results rs h (suc i) hh many (subst (λ l. Stands m v w (hold c (c.held ++ l) ∷ calls) s) (same (omega arith)) g) in
       let put = λ (s : Memory) (g : Stands m v w (hold c (c.held ++ ks) ∷ calls) s). set_above calls (hold c (c.held ++ ks)) v w s ls (contents_of rs) a (words_at s.words t (suc i)) (omega arith) (omega (arith, long)) (held s g) g in
       turned m {lo1 = suc (suc lo)} (omega arith) (seen m _
-      (stepped m {lo = suc lo} {hi = 1} {G1 = Leaving v w (hold c (c.held ++ ks)) calls rs} (SetResults t a (suc i)) (λ s. puts s (fr + a) (words_at s.words t (suc i))) has.0.0
+      (stepped m {lo = suc lo} {hi = 1} {G1 = Leaving v w (hold c (c.held ++ ks)) calls rs} (Incoming FromSlots t a (suc i)) (λ s. puts s (fr + a) (words_at s.words t (suc i))) has.0.0
       (λ s g. (results_by m t a (suc i) fr pc s (frame_here m c.fn pc c.func g.homed.owned.0.named has.0.1) (let r = (put s g).2 in omega arith), refl, ((put s g).0, (put s g).1)))
       (goes_home (hold c (c.held ++ ks)) calls k v w rs (pc + 1) lo b has.1.0.0 has.1.0.1 from room home typed)))
 
@@ -96,7 +98,7 @@ module _ (m : Built) where
       let z : site_slot s site ≡ site_slot s site + 0 = omega arith in
       let split : all ≡ gone ++ (kept t x ++ more) = e ∙ ap (λ l. gone ++ l) (all_kept_first t (map (site_type m.program) sites) x vs typed.0) in
       turned m {lo1 = suc lo} (omega arith) (written_to m _ _ _
-      (landed m (local site itself) t [] x c0 calls gone more v w 0 h pc lo 0 b _ (subst (λ a. slice_get m.code.instrs pc ≡ Some (moves n a (temp s h))) z has.0.0) (sub site (inl refl), refl, solid) (refl, λ i. refl) (λ i f. absurd (omega (arith, f))) split hg typed.0
+      (landed m (local site itself) t [] x c0 calls gone more v w 0 h pc lo 0 b _ (subst (λ a. slice_get m.code.instrs pc ≡ Some (Move Write a (temp s h) n)) z has.0.0) (sub site (inl refl), refl, solid) (refl, λ i. refl) (λ i f. absurd (omega (arith, f))) split hg typed.0
       (named_writes sites vs (gone ++ kept t x) all c env scope calls g v (written w (env site) [] x) (h + n) (pc + 1) lo b typed.1 (one_more gone t x h n hg refl) (split ∙ sym (append_assoc gone (kept t x) more)) has.1 (λ u i. sub u (inr i))
       (λ w1. place_is m (let q : pc + suc (length sites) ≡ pc + 1 + length sites = omega arith in q) (post w1)))))
 
@@ -120,17 +122,13 @@ module _ (m : Built) where
       let typed = site_typed m c0 calls v w u0 site scoped g0.0 in let among = g0.0.homed.owned.0.among site scoped in
       let count : length (contents x) ≡ length (leaves t) = count_of t x typed ∙ sym long in
       turned m {lo1 = suc (suc lo)} (omega arith) (read_of m _ _ _
-      (words_moved m {lo = suc lo} {hi = 1} {G1 = λ u. Stands m v w (c1 ∷ calls) u × Passing m v w calls ls cs a u} n (temp s 0) (site_slot s site) has.0.0 solid
+      (words_moved m {lo = suc lo} {hi = 1} {G1 = λ u. Stands m v w (c1 ∷ calls) u × Passing m v w calls ls cs a u} Read n (temp s 0) (site_slot s site) has.0.0
       (λ u g. (
-        (let used = g.0.sized.used in omega arith),
-        site_room m c0 calls v w u site among.0 among.1 g.0,
-        (
-          value_put m v w c0 calls u 0 t x (words_at u.words (site_slot s site) n) refl (omega arith) (site_stand m c0 calls v w u site scoped g.0) g.0,
-          passing_kept m v v w w calls ls cs a u (puts u (temp s 0) (words_at u.words (site_slot s site) n)) (same_later v.homes w) refl
-              (λ d le. let used = g.0.sized.used in let many = (site_stand m c0 calls v w u site scoped g.0).long in put_other u.words (temp s 0) (words_at u.words (site_slot s site) n) d (omega (arith, many, long)) (inr (omega (arith, many, long)))) g.1,
-        ),
+        value_put m v w c0 calls u 0 t x (words_at u.words (site_slot s site) n) refl (omega arith) (site_stand m c0 calls v w u site scoped g.0) g.0,
+        passing_kept m v v w w calls ls cs a u (puts u (temp s 0) (words_at u.words (site_slot s site) n)) (same_later v.homes w) refl
+            (λ d le. let used = g.0.sized.used in let many = (site_stand m c0 calls v w u site scoped g.0).long in put_other u.words (temp s 0) (words_at u.words (site_slot s site) n) d (omega (arith, many, long)) (inr (omega (arith, many, long)))) g.1,
       ))
-      (stepped m {lo = lo} {hi = 0} {G1 = λ u. Stands m v w (c0 ∷ calls) u × Passing m v w calls (ls ++ leaves t) (cs ++ contents x) a u} (SetResults (temp s 0) i n) (λ u. puts u (fr + i) (words_at u.words (temp s 0) n)) has.1.0.0
+      (stepped m {lo = lo} {hi = 0} {G1 = λ u. Stands m v w (c0 ∷ calls) u × Passing m v w calls (ls ++ leaves t) (cs ++ contents x) a u} (Incoming FromSlots (temp s 0) i n) (λ u. puts u (fr + i) (words_at u.words (temp s 0) n)) has.1.0.0
       (λ u g. (
         results_by m (temp s 0) i n fr (pc + 1) u (frame_here m c.fn (pc + 1) c.func g.0.homed.owned.0.named has.1.0.1) (let r = (put u g.0).2 in omega (arith, r, long)),
         refl,
@@ -152,7 +150,7 @@ module _ (m : Built) where
       passing_above_kept [] c1 v w u ls cs a i xs ei room g pass j l = absurd (omega arith)
       passing_above_kept (up ∷ rest) c1 v w u ls cs a i xs ei room g pass j l =
           let used = g.sized.used in
-          subst (λ z. StandsFor v.homes u.hi w (get_or ls j ints) (get_or cs j nothing) z)
+          subst (λ z. StandsFor m.program m.leading v.homes u.hi w (get_or ls j ints) (get_or cs j nothing) z)
           (sym (put_other u.words (frame_of m.program m.placement c1.func + i) xs (depth m.program m.placement (up ∷ rest) - (a + j)) (omega arith) (inl (omega arith)))) (pass j l)
 
   -- a return with a value for each result, or with none where they have names

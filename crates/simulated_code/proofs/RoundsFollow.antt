@@ -1,5 +1,5 @@
 -- The machine follows the rounds of loops.
-use Rattle.std.proofs.Common.{◌≡◌, ℕ, zero, suc, ◌+◌, ◌-◌, ◌<◌, ◌≤◌, ℤ, pos, Bool, true, false, List, ◌∷◌, ◌++◌, length, Some, Ok, refl, sym, ap, ◌∙◌, subst, arith, append_assoc, get_or-set_same}
+use Rattle.std.proofs.Common.{◌≡◌, inl, ℕ, zero, suc, ◌+◌, ◌-◌, ◌<◌, ◌≤◌, ℤ, pos, Bool, true, false, List, ◌∷◌, ◌++◌, length, Some, Ok, refl, sym, ap, ◌∙◌, subst, arith, append_assoc, get_or-set_same}
 use Rattle.std.specs.Prelude.{slice_get, slice_index, ◌==◌, int_lt, if◌then◌else◌}
 use Rattle.typed_syntax.specs.Types.{ints}
 use Rattle.typed_syntax.specs.Value.{Value, int}
@@ -79,13 +79,13 @@ module _ (m : Built) (c : Frame) (calls : List Frame) where
     In i env w v s = Stands m v w (during c env scope (counting z held i) ∷ calls) s
 
     number_spells : (i : ℕ) (env : Env) (w : World) (v : View) (s : Memory) → In i env w v s → Spells (int z) (slice_index s.words number_slot)
-    number_spells i env w v s g = held_word m v w (during c env scope held) calls s held (kept ints (int (pos i))) ints (int z) h hh refl g
+    number_spells i env w v s g = held_word m v w (during c env scope held) calls s held (kept ints (int (pos i))) ints (int z) h hh (inl refl) g
 
     above : (i : ℕ) (env : Env) (w : World) (v : View) (s : Memory) → In i env w v s → Stands m v w (during c env scope ((held ++ kept ints (int z)) ++ kept ints (int (pos i))) ∷ calls) s
     above i env w v s g = subst (λ l. Stands m v w (during c env scope l ∷ calls) s) (sym (counting_is z held i)) g
 
     index_spells : (i : ℕ) (env : Env) (w : World) (v : View) (s : Memory) → In i env w v s → Spells (int (pos i)) (slice_index s.words index_slot)
-    index_spells i env w v s g = last_word m v w (during c env scope held) calls s (held ++ kept ints (int z)) ints (int (pos i)) (h + 1) (one_more held ints (int z) h 1 hh refl) refl (above i env w v s g)
+    index_spells i env w v s g = last_word m v w (during c env scope held) calls s (held ++ kept ints (int z)) ints (int (pos i)) (h + 1) (one_more held ints (int z) h 1 hh refl) (inl refl) (above i env w v s g)
 
     -- the temp above both gets a word
     spare : (i x : ℕ) (env : Env) (w : World) (v : View) (s : Memory) → In i env w v s → In i env w v (sets s spare_slot x) × (slice_index (sets s spare_slot x).words spare_slot ≡ x)

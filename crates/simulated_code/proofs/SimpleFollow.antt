@@ -6,8 +6,8 @@ use Rattle.typed_syntax.specs.Positions.{Position}
 use Rattle.typed_syntax.specs.declared.operators.BinOp.{BinOp}
 use Rattle.typed_syntax.specs.Value.{Value, int, bool, IsOf}
 use Rattle.typed_syntax.specs.Syntax.{all_width, Ex, Exs, Pl, Left, Piece, none, more, results, read_int, text, shown, declare, assign, update, bump, discard, break_stmt, continue_stmt, return_stmt, print, panic, exit, argument_words, all_wide, value_widths, read}
-use Rattle.typed_syntax.specs.Types.{TypeTree, ints, bools, struct_of, array_of}
-use Rattle.simulated_code.proofs.Numbers.{arithmetic_takes, no_struct, no_array, step_takes}
+use Rattle.typed_syntax.specs.Types.{TypeTree, ints, bools, struct_of, array_of, pointer_to, slice_of}
+use Rattle.simulated_code.proofs.Numbers.{arithmetic_takes, no_struct, no_array, no_pointer, no_slice, step_takes}
 use Rattle.typed_syntax.specs.Form.{IsPlain, AreOf, Takes, new_sites, scope_behind, ExsFit, ReturnFits}
 use Rattle.frames.specs.Frames.{far, lefts_far, behind_values, need, need_all, reach, reach_all, temps_of}
 use Rattle.meaning.specs.Trace.{World, Exit, Panic, raised, raised_text, exit_code}
@@ -15,7 +15,6 @@ use Rattle.meaning.specs.Store.{value_of, written}
 use Rattle.meaning.specs.Operators.{binary_of}
 use Rattle.meaning.specs.Meaning
 use Rattle.meaning.specs.Meaning.{Env, Go, Ways, Calls, Setting}
-use Rattle.simulation.specs.Steps.{Stops}
 use Rattle.isa.specs.Bin.{bit_of}
 use Rattle.isa.specs.declared.instr.Instr.TheVariants.{Const, Bin, Jump, Exit as ExitWith, PanicText, PanicInt, PanicBool}
 use Rattle.machine.specs.Machine.{stops as ends, exit_of, panics}
@@ -42,7 +41,7 @@ use Rattle.simulated_code.proofs.Reached.{variable_of, steps_of, index_types, Lo
 use Rattle.simulated_code.proofs.Temps.{last_word, held_there}
 use Rattle.simulated_code.proofs.LinesFollow.{piece_types, texts, line_follows, plain_follows}
 use Rattle.simulated_code.proofs.LeftsFollow.{together, left_types, landings, lefts_follow, zeros_follow}
-use Rattle.program_code.proofs.Wide.{AllPlain, all_wide_is, plain_one, widths_are}
+use Rattle.program_code.proofs.Wide.{AllPlain, all_wide_is, widths_are}
 use Rattle.typed_syntax.specs.Paths.{at_path}
 
 -- an address takes its temp
@@ -70,7 +69,7 @@ module _ (m : Built) where
         let s = slots_of m.program m.placement c.func in let by = place_held m env q ints path in let base = (held ++ ks) ++ by in let c0 = during c env scope base in let site = variable_of env q in
         let left = λ (u : Memory) (g : Stands m v w (during c env scope ((base ++ kept ints x) ++ kept ints y) ∷ calls) u). fewer m v w c0 calls u (base ++ kept ints x) (kept ints y) g in
         operates m at o ints ints x y ws env (λ z. Meaning.write_part site path z (k env)) v w (Stands m v w (during c env scope ((base ++ kept ints x) ++ kept ints y) ∷ calls)) (λ z. Stands m v w (during c env scope (base ++ kept ints z) ∷ calls)) (temp s a) (temp s a) (temp s (a + 1)) pc (suc lo) 1 b here stops (inl refl) takes ix iy (λ u g. g.sized.heap_used)
-        (λ u g. (last_word m v w c0 calls u base ints x a ha refl (left u g), last_word m v w c0 calls u (base ++ kept ints x) ints y (a + 1) (one_more base ints x a 1 ha refl) refl g))
+        (λ u g. (last_word m v w c0 calls u base ints x a ha (inl refl) (left u g), last_word m v w c0 calls u (base ++ kept ints x) ints y (a + 1) (one_more base ints x a 1 ha refl) (inl refl) g))
         (λ z word u iz sz g. temp_set m v w c0 calls u a word ints z ha room iz refl sz (fewer m v w c0 calls u base (kept ints x) (left u g)))
         (λ z iz.
         let all = base ++ kept ints z in let w1 = written w site path z in
@@ -178,11 +177,11 @@ module _ (m : Built) where
 
     pub break_follows : Followed m c calls around callees n break_stmt
     break_follows ws env k v w held h looped outer scope q out again pc lo b le hh has fit enough reaches sc leads post =
-        turned m {lo1 = suc lo} (omega arith) (stepped m {lo = lo} {hi = 0} (Jump out) (λ u. u) has.0.0 (λ u g. (refl, refl, narrowed m.program m.placement m.max v w (hold c held) calls u env scope outer leads.around g)) (leads.broken fit refl env w v))
+        turned m {lo1 = suc lo} (omega arith) (stepped m {lo = lo} {hi = 0} (Jump out) (λ u. u) has.0.0 (λ u g. (refl, refl, narrowed m.program m.placement m.max m.leading v w (hold c held) calls u env scope outer leads.around g)) (leads.broken fit refl env w v))
 
     pub continue_follows : Followed m c calls around callees n continue_stmt
     continue_follows ws env k v w held h looped outer scope q out again pc lo b le hh has fit enough reaches sc leads post =
-        turned m {lo1 = suc lo} (omega arith) (stepped m {lo = lo} {hi = 0} (Jump again) (λ u. u) has.0.0 (λ u g. (refl, refl, narrowed m.program m.placement m.max v w (hold c held) calls u env scope outer leads.around g)) (leads.continued fit env w v))
+        turned m {lo1 = suc lo} (omega arith) (stepped m {lo = lo} {hi = 0} (Jump again) (λ u. u) has.0.0 (λ u g. (refl, refl, narrowed m.program m.placement m.max m.leading v w (hold c held) calls u env scope outer leads.around g)) (leads.continued fit env w v))
 
     -- a return's values
     module _ (scope : List ℕ) (es : Exs) where
@@ -235,6 +234,8 @@ module _ (m : Built) where
     raises at bools x ws env v w G a pc lo b plain stops here typed heaped stands = absurd typed
     raises at (struct_of ts) x ws env v w G a pc lo b plain stops here typed heaped stands = absurd (no_struct ts plain)
     raises at (array_of i t) x ws env v w G a pc lo b plain stops here typed heaped stands = absurd (no_array i t plain)
+    raises at (pointer_to i) x ws env v w G a pc lo b plain stops here typed heaped stands = absurd (no_pointer i plain)
+    raises at (slice_of i) x ws env v w G a pc lo b plain stops here typed heaped stands = absurd (no_slice i plain)
 
     pub raise_follows : (at : Position) (p : Piece) → Followed m c calls around callees n (panic at p)
     raise_follows at (text number) ws env k v w held h looped outer scope q out again pc lo b le hh has fit enough reaches sc leads post =
@@ -245,7 +246,7 @@ module _ (m : Built) where
         let ce = ex_code fs s e h pc in
         let has_p = back m.code c.fn pc (size fs e) ce (raised_code t (temp s h) ∷ []) (length_code fs s e h pc) has in
         ev_follows m around types inputs callees n cf e t (during c env scope held) calls ws _ v w h pc lo b le hh leads.panics (front m.code c.fn pc ce (raised_code t (temp s h) ∷ []) has) fit.1 enough reaches (λ x w1 v1 ix.
-        turned m {lo1 = suc lo} (omega arith) (raises at t x ws env v1 w1 _ (temp s h) (pc + size fs e) lo b fit.0 leads.panics has_p.0.0 ix (λ u g. g.sized.heap_used) (λ u g. last_word m v1 w1 (during c env scope held) calls u held t x h hh (plain_one t fit.0) g)))
+        turned m {lo1 = suc lo} (omega arith) (raises at t x ws env v1 w1 _ (temp s h) (pc + size fs e) lo b fit.0 leads.panics has_p.0.0 ix (λ u g. g.sized.heap_used) (λ u g. last_word m v1 w1 (during c env scope held) calls u held t x h hh fit.0 g)))
 
     -- an exit, with a status or with a panic
     quits : (at : Position) (z : ℤ) (ws : Ways) (env : Env) (v : View) (w : World) (G : Memory → Type 0) (a pc lo b : ℕ) → Panics ws → slice_get m.code.instrs pc ≡ Some (ExitWith a) → ((u : Memory) → G u → length u.heap ≡ v.heap) → ((u : Memory) → G u → cast_signed w64 (slice_index u.words a) ≡ z)
@@ -270,6 +271,6 @@ module _ (m : Built) where
       where
         by : (x : Value) (w1 : World) (v1 : View) → IsOf ints x → slice_get m.code.instrs (pc + size m.program e) ≡ Some (ExitWith (temp (slots_of m.program m.placement c.func) h))
             → At m (suc lo) 1 b v1 (Meaning.quit_with ws env at (Meaning.int_of x) w1) (Stands m v1 w1 (during c env scope (held ++ kept ints x) ∷ calls)) (pc + size m.program e)
-        by (int z) w1 v1 ix here = quits at z ws env v1 w1 _ (temp (slots_of m.program m.placement c.func) h) (pc + size m.program e) lo b leads.panics here (λ u g. g.sized.heap_used) (λ u g. (last_word m v1 w1 (during c env scope held) calls u held ints (int z) h hh refl g).0)
+        by (int z) w1 v1 ix here = quits at z ws env v1 w1 _ (temp (slots_of m.program m.placement c.func) h) (pc + size m.program e) lo b leads.panics here (λ u g. g.sized.heap_used) (λ u g. (last_word m v1 w1 (during c env scope held) calls u held ints (int z) h hh (inl refl) g).0)
         by (bool x) w1 v1 ix here = absurd ix
         by x w1 v1 ix here = absurd ix

@@ -1,5 +1,5 @@
 -- Writes and births.
-use Rattle.std.proofs.Common.{◌≡◌, ◌≢◌, ◌⊎◌, inl, inr, ℕ, ◌+◌, ◌-◌, ◌<◌, ◌≤◌, List, [], ◌∷◌, length, Option, Some, refl, sym, ap, ◌∙◌, subst, arith, get_or, length-append, false}
+use Rattle.std.proofs.Common.{◌≡◌, ◌≢◌, ◌⊎◌, inl, inr, ℕ, ◌+◌, ◌-◌, ◌<◌, ◌≤◌, List, [], ◌∷◌, length, Option, Some, refl, sym, ap, ◌∙◌, subst, arith, get_or, length-append, Bool, true, false}
 use Rattle.std.specs.Prelude.{slice_get, slice_index}
 use Rattle.std.proofs.lemmas.Option.{slice_get_within}
 use Rattle.std.proofs.lemmas.Bool.{cases_eq}
@@ -20,18 +20,18 @@ use Rattle.machine.specs.Machine.{put_words}
 use Rattle.program_code.specs.Code.{site_slot, slots_of}
 use Rattle.state_relation.specs.Leaves.{leaves, leaf}
 use Rattle.state_relation.specs.Views.{Place, on_stack, on_heap, View, born_at, after_stack}
-use Rattle.state_relation.specs.Relation.{Memory, puts, set_place, Frame, grown, behind, word_at, word_in, nothing, StandsFor, StandsKept, Stand, words_before, depth, SiteAt, NamedAt, Begun, Homed, Good}
-use Rattle.state_relation.proofs.Lists.{some_same, less_or, append_cases, append_old, append_new, one_item, change_same, change_other, change_length}
+use Rattle.state_relation.specs.Relation.{Memory, puts, set_place, Frame, grown, behind, word_at, word_in, nothing, Leading, StandsFor, StandsKept, Stand, words_before, slot_of, depth, SiteAt, NamedAt, Begun, Homed, Good}
+use Rattle.state_relation.proofs.Lists.{true_false, some_same, less_or, append_cases, append_old, append_new, one_item, change_same, change_other, change_length}
 use Rattle.state_relation.proofs.Distances.{put_length, put_in, put_out, put_other, put_same}
 use Rattle.state_relation.proofs.Leaves.{leaves_length, part_leaf}
-use Rattle.state_relation.proofs.Relation.{Other, site_inside, site_next, site_within, named_within, other_within, apart, sites_apart, held_other, back_other, link_other, Later, stands_later, kept_later, framed_later}
+use Rattle.state_relation.proofs.Relation.{Other, site_inside, site_next, site_within, named_within, other_within, apart, sites_apart, held_other, box_other, back_other, link_other, Later, stands_later, kept_later, framed_later}
 use Rattle.state_relation.proofs.Changes.{stack_same, stack_heap, not_at_some, not_at_other, not_at_heap, born_new, born_old, home_same, home_other, stands_same}
 
-module _ (p : Program) (pl : Placement) (max : ℕ) where
+module _ (p : Program) (pl : Placement) (max : ℕ) (led : Leading) where
   -- ---- a part of a variable gets a value
 
   module _ (v : View) (w : World) (calls : List Frame) (s : Memory) (x : ℕ) (y : Cell) (path : List ℕ) (t : TypeTree) (val : Value) (xs : List ℕ)
-      (here : slice_get w.store x ≡ Some y) (leads : Leads y.type path t) (is : IsOf t val) (st : Stand v.homes s.hi w (leaves t) (contents val) xs) (g : Good p pl max v w calls s) where
+      (here : slice_get w.store x ≡ Some y) (leads : Leads y.type path t) (is : IsOf t val) (st : Stand p led v.homes s.hi w (leaves t) (contents val) xs) (g : Good p pl max led v w calls s) where
     abbrev off : ℕ
     off = offset y.type path
 
@@ -75,6 +75,7 @@ module _ (p : Program) (pl : Placement) (max : ℕ) where
         | inr ne ↦ (b, change_other w.store x z path val ne ∙ e, refl)
       ];
       ends = λ z q lt h. h;
+      stays = λ z h lt e. e;
     }
 
     homed : Homed p pl v w1 calls
@@ -85,8 +86,9 @@ module _ (p : Program) (pl : Placement) (max : ℕ) where
       known = λ z q e. let k = h.known z q e in omega (arith, same, k);
       stacked = λ z d b e hm. let o = old z b e in subst (λ n. SiteAt p pl calls d n) o.2 (h.stacked z d o.0 o.1 hm);
       heaped = λ z k b e hm. let o = old z b e in subst (λ n. k + width n ≤ v.heap) o.2 (h.heaped z k o.0 o.1 hm);
-      named = λ z d u n. let r = h.named z d u n in let k = later.keeps z r.0 r.1 in (k.0, k.1, k.2 ∙ r.2);
+      named = λ z d b u n. let r = h.named z d b u n in let k = later.keeps z r.0 r.1 in (k.0, k.1, k.2 ∙ r.2);
       slots = h.slots;
+      boxes = h.boxes;
       globals = λ n l k. (let r = h.globals n l (omega (arith, same, k)) in let a = later.keeps n r.0 r.1 in (a.0, a.1, a.2 ∙ r.2, r.3));
       begun = subst (λ n. Begun p pl calls n) (sym same) h.begun;
       typed = λ z b e. elim (cases_eq z x) [
@@ -101,43 +103,43 @@ module _ (p : Program) (pl : Placement) (max : ℕ) where
     -- the content and the word at a place, by whether it is written
     module _ (words heap : List ℕ) (place : Place) (home : v.homes x ≡ Some place) (same : (i : ℕ) → i < width t → word_in words heap (behind place (off + i)) ≡ slice_index xs i)
         (other : (z j : ℕ) (b : Cell) (q : Place) → slice_get w.store z ≡ Some b → v.homes z ≡ Some q → j < width b.type → ((i : ℕ) → i < width t → behind q j ≡ behind place (off + i) → ⊥) → word_in words heap (behind q j) ≡ word_in s.words s.heap (behind q j)) where
-      kept : (z j : ℕ) (a : Cell) (q : Place) (c : Content) → slice_get w.store z ≡ Some a → v.homes z ≡ Some q → j < width a.type → get_or (contents a.value) j nothing ≡ c → ((i : ℕ) → i < width t → behind q j ≡ behind place (off + i) → ⊥) → StandsFor v.homes s.hi w1 (leaf a.type j) c (word_in words heap (behind q j))
+      kept : (z j : ℕ) (a : Cell) (q : Place) (c : Content) → slice_get w.store z ≡ Some a → v.homes z ≡ Some q → j < width a.type → get_or (contents a.value) j nothing ≡ c → ((i : ℕ) → i < width t → behind q j ≡ behind place (off + i) → ⊥) → StandsFor p led v.homes s.hi w1 (leaf a.type j) c (word_in words heap (behind q j))
       kept z j a q c e hq lt ec far =
-          stands_same v.homes s.hi w1 (leaf a.type j) (leaf a.type j) (get_or (contents a.value) j nothing) c (word_in s.words s.heap (behind q j)) (word_in words heap (behind q j)) refl ec (sym (other z j a q e hq lt far))
-          (stands_later v.homes v.homes s.hi w w1 (leaf a.type j) (get_or (contents a.value) j nothing) _ later (g.cells z j a q e hq lt))
+          stands_same p led v.homes s.hi w1 (leaf a.type j) (leaf a.type j) (get_or (contents a.value) j nothing) c (word_in s.words s.heap (behind q j)) (word_in words heap (behind q j)) refl ec (sym (other z j a q e hq lt far))
+          (stands_later p led v.homes v.homes s.hi w w1 (leaf a.type j) (get_or (contents a.value) j nothing) _ later (g.cells z j a q e hq lt))
 
       -- of the variable itself
-      own : (j : ℕ) → j < width y.type → StandsFor v.homes s.hi w1 (leaf y.type j) (get_or (contents new.value) j nothing) (word_in words heap (behind place j))
+      own : (j : ℕ) → j < width y.type → StandsFor p led v.homes s.hi w1 (leaf y.type j) (get_or (contents new.value) j nothing) (word_in words heap (behind place j))
       own j lt = elim (less_or j off) [
         | inl a ↦ kept x j y place (get_or (contents new.value) j nothing) here home lt (sym (parts.before j a)) (λ i li r. far j (off + i) lt (omega (arith, ends)) (omega arith) r)
         | inr a ↦ elim (less_or j (off + width t)) [
           | inr b ↦ kept x j y place (get_or (contents new.value) j nothing) here home lt (sym (parts.behind j b)) (λ i li r. far j (off + i) lt (omega (arith, ends)) (omega arith) r)
           | inl b ↦
               let i : ℕ = j - off in let li : i < width t = omega arith in let ij : off + i ≡ j = omega arith in
-              stands_same v.homes s.hi w1 (leaf t i) (leaf y.type j) (get_or (contents val) i nothing) (get_or (contents new.value) j nothing) (slice_index xs i) (word_in words heap (behind place j))
+              stands_same p led v.homes s.hi w1 (leaf t i) (leaf y.type j) (get_or (contents val) i nothing) (get_or (contents new.value) j nothing) (slice_index xs i) (word_in words heap (behind place j))
               (sym (part_leaf y.type t path i leads li) ∙ ap (leaf y.type) ij)
               (sym (parts.inside i li) ∙ ap (λ n. get_or (contents new.value) n nothing) ij)
               (sym (same i li) ∙ ap (λ n. word_in words heap (behind place n)) ij)
-              (stands_later v.homes v.homes s.hi w w1 (leaf t i) (get_or (contents val) i nothing) (slice_index xs i) later (st.each i (subst (λ n. i < n) (sym (leaves_length t)) li)))
+              (stands_later p led v.homes v.homes s.hi w w1 (leaf t i) (get_or (contents val) i nothing) (slice_index xs i) later (st.each i (subst (λ n. i < n) (sym (leaves_length t)) li)))
         ]
       ]
         where
           far : (a b : ℕ) → a < width y.type → b < width y.type → a ≢ b → behind place a ≡ behind place b → ⊥
           far a b la lb ne r = ne (g.homed.sole x x a b y y place place here here home home la lb r).1
 
-      cell : (z j : ℕ) (b : Cell) (q : Place) → slice_get w1.store z ≡ Some b → v.homes z ≡ Some q → j < width b.type → StandsFor v.homes s.hi w1 (leaf b.type j) (get_or (contents b.value) j nothing) (word_in words heap (behind q j))
+      cell : (z j : ℕ) (b : Cell) (q : Place) → slice_get w1.store z ≡ Some b → v.homes z ≡ Some q → j < width b.type → StandsFor p led v.homes s.hi w1 (leaf b.type j) (get_or (contents b.value) j nothing) (word_in words heap (behind q j))
       cell z j b q e hq lt = elim (cases_eq z x) [
         | inr ne ↦
             let o = old_same z b ne e in
             kept z j b q (get_or (contents b.value) j nothing) o hq lt refl (λ i li r. ne (g.homed.sole z x j (off + i) b y q place o here hq home lt (omega (arith, ends)) r).0)
         | inl k ↦
             let f = new_is z b k e in let eq : place ≡ q = some_same (sym home ∙ ap v.homes (sym k) ∙ hq) in
-            subst (λ (r : Place). StandsFor v.homes s.hi w1 (leaf b.type j) (get_or (contents b.value) j nothing) (word_in words heap (behind r j))) eq
-            (subst (λ (r : Cell). StandsFor v.homes s.hi w1 (leaf r.type j) (get_or (contents r.value) j nothing) (word_in words heap (behind place j))) f
+            subst (λ (r : Place). StandsFor p led v.homes s.hi w1 (leaf b.type j) (get_or (contents b.value) j nothing) (word_in words heap (behind r j))) eq
+            (subst (λ (r : Cell). StandsFor p led v.homes s.hi w1 (leaf r.type j) (get_or (contents r.value) j nothing) (word_in words heap (behind place j))) f
             (own j (subst (λ (r : Cell). j < width r.type) (sym f) lt)))
       ]
 
-    pub home_write : (q : Place) → v.homes x ≡ Some q → Good p pl max v w1 calls (set_place s q off xs)
+    pub home_write : (q : Place) → v.homes x ≡ Some q → Good p pl max led v w1 calls (set_place s q off xs)
     home_write (on_heap h) hp =
         let inside = g.homed.heaped x h y here hp in let used = g.sized.heap_used in let z = g.sized in let e = ends in let n = many in
         record {
@@ -145,7 +147,7 @@ module _ (p : Program) (pl : Placement) (max : ℕ) where
           cells = cell s.words (put_words s.heap (h + off) xs) (on_heap h) hp
               (λ i li. let k : h + (off + i) ≡ h + off + i = omega arith in ap (slice_index (put_words s.heap (h + off) xs)) k ∙ put_in s.heap (h + off) xs i (omega arith) (omega arith))
               far;
-          framed = framed_later p pl v.homes v.homes s.hi w w1 calls s.words s.words later (λ d o. refl) g.framed;
+          framed = framed_later p pl led v v.homes s.hi w w1 calls s.words s.words g.homed later (λ d o. refl) g.framed;
           sized = record { used = z.used; heap_used = put_length s.heap (h + off) xs (omega arith) ∙ z.heap_used; asked = z.asked; full = z.full; low = z.low; high = z.high; fits = z.fits; small = z.small };
         }
       where
@@ -165,7 +167,7 @@ module _ (p : Program) (pl : Placement) (max : ℕ) where
         record {
           homed = homed;
           cells = cell words1 s.heap (on_stack d) hp (λ i li. put_same s.words from xs i (d - (off + i)) room_of (omega arith) (let r = site in omega (arith, r.0, r.1))) far;
-          framed = framed_later p pl v.homes v.homes s.hi w w1 calls s.words words1 later stays g.framed;
+          framed = framed_later p pl led v v.homes s.hi w w1 calls s.words words1 g.homed later stays g.framed;
           sized = record { used = put_length s.words from xs room_of ∙ z.used; heap_used = z.heap_used; asked = z.asked; full = z.full; low = z.low; high = z.high; fits = z.fits; small = z.small };
         }
       where
@@ -240,7 +242,7 @@ module _ (p : Program) (pl : Placement) (max : ℕ) where
 
     -- on the stack: the words of a site hold its value
     module _ (v : View) (w : World) (c : Frame) (calls : List Frame) (s : Memory) (site d : ℕ) (y : Cell) (xs : List ℕ) (stays : pl.on_heap site ≡ false) (first : c.func.first ≤ site) (last : site < c.func.first + c.func.count)
-        (at : d ≡ depth p pl (c ∷ calls) - site_slot (slots_of p pl c.func) site) (kind : y.type ≡ site_type p site) (is : IsOf y.type y.value) (st : Stand v.homes s.hi w (leaves y.type) (contents y.value) xs) (g : Good p pl max v w (c ∷ calls) s) where
+        (at : d ≡ depth p pl (c ∷ calls) - site_slot (slots_of p pl c.func) site) (kind : y.type ≡ site_type p site) (is : IsOf y.type y.value) (st : Stand p led v.homes s.hi w (leaves y.type) (contents y.value) xs) (g : Good p pl max led v w (c ∷ calls) s) where
       abbrev n : ℕ
       n = length w.store
 
@@ -272,7 +274,7 @@ module _ (p : Program) (pl : Placement) (max : ℕ) where
       home_old x q ne h = not_at_some d (v.homes x) q (sym (born_old v.homes v.births d x (λ e. ne (e ∙ g.homed.births))) ∙ h)
 
       later_born : Later v.homes homes1 w w2
-      later_born = record { keeps = λ x a e. (a, still w y x a e, refl); ends = λ x q less h. let ne : x ≢ n = omega arith in (home_old x q ne h).0 }
+      later_born = record { keeps = λ x a e. (a, still w y x a e, refl); ends = λ x q less h. let ne : x ≢ n = omega arith in (home_old x q ne h).0; stays = λ x h less e. let ne : x ≢ n = omega arith in born_old v.homes v.births d x (λ r. ne (r ∙ g.homed.births)) ∙ not_at_heap d h (v.homes x) e }
 
       -- words elsewhere stay
       elsewhere : (e : ℕ) → e ≤ depth p pl (c ∷ calls) → ((j : ℕ) → j < width y.type → e ≡ d - j → ⊥) → word_at words2 e ≡ word_at s.words e
@@ -290,19 +292,19 @@ module _ (p : Program) (pl : Placement) (max : ℕ) where
       others_stay : (e : ℕ) → Other p pl (c ∷ calls) e → word_at words2 e ≡ word_at s.words e
       others_stay e o = let b = other_within p pl (c ∷ calls) e o in elsewhere e b.1 (λ j lj q. apart p pl (c ∷ calls) d e j y.type lj own_site o q)
 
-      cell_born : (x j : ℕ) (a : Cell) (q : Place) → slice_get w2.store x ≡ Some a → homes1 x ≡ Some q → j < width a.type → StandsFor homes1 s.hi w2 (leaf a.type j) (get_or (contents a.value) j nothing) (word_in words2 s.heap (behind q j))
+      cell_born : (x j : ℕ) (a : Cell) (q : Place) → slice_get w2.store x ≡ Some a → homes1 x ≡ Some q → j < width a.type → StandsFor p led homes1 s.hi w2 (leaf a.type j) (get_or (contents a.value) j nothing) (word_in words2 s.heap (behind q j))
       cell_born x j a q e hq lt = elim (cases_eq x n) [ inl k ↦ fresh_one k | inr ne ↦ old_one ne (home_old x q ne hq) ]
         where
-          fresh_one : x ≡ n → StandsFor homes1 s.hi w2 (leaf a.type j) (get_or (contents a.value) j nothing) (word_in words2 s.heap (behind q j))
+          fresh_one : x ≡ n → StandsFor p led homes1 s.hi w2 (leaf a.type j) (get_or (contents a.value) j nothing) (word_in words2 s.heap (behind q j))
           fresh_one k =
               let f = get_new w y x a k e in let at_d : on_stack d ≡ q = some_same (sym (home_new x k) ∙ hq) in
               let lt1 : j < width y.type = subst (λ (r : Cell). j < width r.type) (sym f) lt in
               let u = g.sized.used in let r = inside in let m = count in
               let word : word_at words2 (d - j) ≡ slice_index xs j = put_same s.words slot xs j (d - j) (omega arith) (omega arith) (omega (arith, at)) in
-              subst (λ (z : Place). StandsFor homes1 s.hi w2 (leaf a.type j) (get_or (contents a.value) j nothing) (word_in words2 s.heap (behind z j))) at_d
-              (subst (λ (z : Cell). StandsFor homes1 s.hi w2 (leaf z.type j) (get_or (contents z.value) j nothing) (word_at words2 (d - j))) f
-              (subst (λ z. StandsFor homes1 s.hi w2 (leaf y.type j) (get_or (contents y.value) j nothing) z) (sym word)
-              (stands_later v.homes homes1 s.hi w w2 (leaf y.type j) (get_or (contents y.value) j nothing) (slice_index xs j) later_born (st.each j (subst (λ l. j < l) (sym (leaves_length y.type)) lt1)))))
+              subst (λ (z : Place). StandsFor p led homes1 s.hi w2 (leaf a.type j) (get_or (contents a.value) j nothing) (word_in words2 s.heap (behind z j))) at_d
+              (subst (λ (z : Cell). StandsFor p led homes1 s.hi w2 (leaf z.type j) (get_or (contents z.value) j nothing) (word_at words2 (d - j))) f
+              (subst (λ z. StandsFor p led homes1 s.hi w2 (leaf y.type j) (get_or (contents y.value) j nothing) z) (sym word)
+              (stands_later p led v.homes homes1 s.hi w w2 (leaf y.type j) (get_or (contents y.value) j nothing) (slice_index xs j) later_born (st.each j (subst (λ l. j < l) (sym (leaves_length y.type)) lt1)))))
 
           same : (r : Place) → x ≢ n → (v.homes x ≡ Some r) × (r ≡ on_stack d → ⊥) → word_in words2 s.heap (behind r j) ≡ word_in s.words s.heap (behind r j)
           same (on_heap k) ne o = refl
@@ -310,10 +312,10 @@ module _ (p : Program) (pl : Placement) (max : ℕ) where
               let there = g.homed.stacked x k a (get_old w y x a ne e) o.0 in let b = site_within p pl (c ∷ calls) k a.type there in
               elsewhere (k - j) (omega (arith, b.1)) (λ i li r. o.1 (ap on_stack (sites_apart p pl (c ∷ calls) k d j i a.type y.type lt li there own_site r).0))
 
-          old_one : x ≢ n → (v.homes x ≡ Some q) × (q ≡ on_stack d → ⊥) → StandsFor homes1 s.hi w2 (leaf a.type j) (get_or (contents a.value) j nothing) (word_in words2 s.heap (behind q j))
+          old_one : x ≢ n → (v.homes x ≡ Some q) × (q ≡ on_stack d → ⊥) → StandsFor p led homes1 s.hi w2 (leaf a.type j) (get_or (contents a.value) j nothing) (word_in words2 s.heap (behind q j))
           old_one ne o =
-              subst (λ z. StandsFor homes1 s.hi w2 (leaf a.type j) (get_or (contents a.value) j nothing) z) (sym (same q ne o))
-              (stands_later v.homes homes1 s.hi w w2 (leaf a.type j) (get_or (contents a.value) j nothing) _ later_born (g.cells x j a q (get_old w y x a ne e) o.0 lt))
+              subst (λ z. StandsFor p led homes1 s.hi w2 (leaf a.type j) (get_or (contents a.value) j nothing) z) (sym (same q ne o))
+              (stands_later p led v.homes homes1 s.hi w w2 (leaf a.type j) (get_or (contents a.value) j nothing) _ later_born (g.cells x j a q (get_old w y x a ne e) o.0 lt))
 
       -- no word of the new variable's home is one of another's
       clash : (x j i : ℕ) (a : Cell) (q : Place) → slice_get w.store x ≡ Some a → (v.homes x ≡ Some q) × (q ≡ on_stack d → ⊥) → j < width a.type → i < width y.type → behind q j ≡ on_stack (d - i) → ⊥
@@ -344,13 +346,20 @@ module _ (p : Program) (pl : Placement) (max : ℕ) where
               (kx ∙ sym kz, omega (arith, k, at))
 
       -- a name of before, or the new one
-      name_cases : (x e : ℕ) (u : TypeTree) → NamedAt p pl (grown c site n ∷ calls) x e u → ((x ≡ n) × (e ≡ d) × (y.type ≡ u)) ⊎ (NamedAt p pl (c ∷ calls) x e u × (e ≢ d))
-      name_cases x e u (inr m) = let r = named_within p pl calls x e u m in let k = inside in inr (inr m, omega (arith, r, at))
-      name_cases x e u (inl m) = elim (cases_eq m.0 site) [
-        | inl q ↦ inl (m.2 ∙ ap (with_home c.env site n) q ∙ home_same c.env site n, m.3 ∙ ap (λ j. depth p pl (c ∷ calls) - site_slot (slots_of p pl c.func) j) q ∙ sym at, kind ∙ ap (site_type p) (sym q) ∙ m.4)
+      name_cases : (x e : ℕ) (b : Bool) (u : TypeTree) → NamedAt p pl (grown c site n ∷ calls) x e b u → ((x ≡ n) × (b ≡ false) × (e ≡ d) × (y.type ≡ u)) ⊎ (NamedAt p pl (c ∷ calls) x e b u × (b ≡ false → e ≢ d))
+      name_cases x e b u (inr m) = let r = named_within p pl calls x e b u m in let k = inside in inr (inr m, λ f. omega (arith, r, at))
+      name_cases x e b u (inl m) = elim (cases_eq m.0 site) [
+        | inl q ↦ (
+            let plain : b ≡ false = sym m.5 ∙ ap pl.on_heap q ∙ stays in
+            inl (m.2 ∙ ap (with_home c.env site n) q ∙ home_same c.env site n, plain, m.3 ∙ ap (λ k. depth p pl (c ∷ calls) - slot_of (slots_of p pl c.func) k m.0) plain ∙ ap (λ j. depth p pl (c ∷ calls) - site_slot (slots_of p pl c.func) j) q ∙ sym at, kind ∙ ap (site_type p) (sym q) ∙ m.4)
+            )
         | inr ne ↦ (
             let i = in_scope m.0 ne m.1 in let a = g.homed.owned.0.among m.0 i in
-            inr (inl (m.0, i, m.2 ∙ home_other c.env site n m.0 ne, m.3, m.4, m.5), λ k. distances_differ c.func m.0 site (depth p pl (c ∷ calls)) ne m.5 stays a.0 a.1 first last (omega arith) (sym m.3 ∙ k ∙ at))
+            inr (
+              inl (m.0, i, m.2 ∙ home_other c.env site n m.0 ne, m.3, m.4, m.5),
+              λ f k.
+                  distances_differ c.func m.0 site (depth p pl (c ∷ calls)) ne (m.5 ∙ f) stays a.0 a.1 first last (omega arith) (sym (m.3 ∙ ap (λ z. depth p pl (c ∷ calls) - slot_of (slots_of p pl c.func) z m.0) f) ∙ k ∙ at),
+            )
             )
       ]
         where
@@ -358,10 +367,10 @@ module _ (p : Program) (pl : Placement) (max : ℕ) where
           in_scope k ne (inl q) = absurd (ne q)
           in_scope k ne (inr i) = i
 
-      old_name : (x e : ℕ) (u : TypeTree) → NamedAt p pl (c ∷ calls) x e u → x ≢ n
-      old_name x e u m = let r = g.homed.named x e u m in let k = slice_get_within w.store x r.0 r.1 in omega arith
+      old_name : (x e : ℕ) (b : Bool) (u : TypeTree) → NamedAt p pl (c ∷ calls) x e b u → x ≢ n
+      old_name x e b u m = let r = g.homed.named x e b u m in let k = slice_get_within w.store x r.0 r.1 in omega arith
 
-      pub birth : Good p pl max (after_stack v d) w2 (grown c site n ∷ calls) (puts s slot xs)
+      pub birth : Good p pl max led (after_stack v d) w2 (grown c site n ∷ calls) (puts s slot xs)
       birth = record {
         homed = let h = g.homed in let long = born_length w y in record {
           sole = one_home;
@@ -376,13 +385,17 @@ module _ (p : Program) (pl : Placement) (max : ℕ) where
             | inl q ↦ absurd (stack_heap d k (some_same (sym (home_new x q) ∙ hq)))
             | inr ne ↦ h.heaped x k a (get_old w y x a ne ea) (home_old x _ ne hq).0
           ];
-          named = λ x e u m. elim (name_cases x e u m) [
-            | inl q ↦ (y, is_new w y x q.0, q.2)
-            | inr q ↦ (let r = h.named x e u q.0 in (r.0, still w y x r.0 r.1, r.2))
+          named = λ x e b u m. elim (name_cases x e b u m) [
+            | inl q ↦ (y, is_new w y x q.0, q.3)
+            | inr q ↦ (let r = h.named x e b u q.0 in (r.0, still w y x r.0 r.1, r.2))
           ];
-          slots = λ x e u m. elim (name_cases x e u m) [
-            | inl q ↦ home_new x q.0 ∙ ap (λ k. Some (on_stack k)) (sym q.1)
-            | inr q ↦ born_old v.homes v.births d x (λ a. old_name x e u q.0 (a ∙ h.births)) ∙ not_at_other d e (v.homes x) (h.slots x e u q.0) q.1
+          slots = λ x e u m. elim (name_cases x e false u m) [
+            | inl q ↦ home_new x q.0 ∙ ap (λ k. Some (on_stack k)) (sym q.2)
+            | inr q ↦ born_old v.homes v.births d x (λ a. old_name x e false u q.0 (a ∙ h.births)) ∙ not_at_other d e (v.homes x) (h.slots x e u q.0) (q.1 refl)
+          ];
+          boxes = λ x e u m. elim (name_cases x e true u m) [
+            | inl q ↦ absurd (true_false q.1)
+            | inr q ↦ (let r = h.boxes x e u q.0 in (r.0, born_old v.homes v.births d x (λ a. old_name x e true u q.0 (a ∙ h.births)) ∙ not_at_heap d r.0 (v.homes x) r.1))
           ];
           globals = λ k l m. (let b = h.begun in let r = h.globals k l (omega arith) in
               (r.0, still w y k r.0 r.1, r.2, born_old v.homes v.births d k (λ a. (let e = h.births in let f : k < k = omega arith in absurd (omega arith))) ∙ not_at_heap d (words_before p k) (v.homes k) r.3));
@@ -394,7 +407,11 @@ module _ (p : Program) (pl : Placement) (max : ℕ) where
         };
         cells = cell_born;
         framed = record {
-          kept = λ e k m. subst (λ u. StandsKept homes1 s.hi w2 k u) (sym (others_stay e (held_other p pl (c ∷ calls) e k m))) (kept_later v.homes homes1 s.hi w w2 k _ later_born (g.framed.kept e k m));
+          kept = λ e k m. subst (λ u. StandsKept p led homes1 s.hi w2 k u) (sym (others_stay e (held_other p pl (c ∷ calls) e k m))) (kept_later p led v.homes homes1 s.hi w w2 k _ later_born (g.framed.kept e k m));
+          boxed = λ x e h u m hm. elim (name_cases x e true u m) [
+            | inl q ↦ absurd (true_false q.1)
+            | inr q ↦ others_stay e (box_other p pl (c ∷ calls) x e u g.homed.owned q.0) ∙ g.framed.boxed x e h u q.0 (home_old x (on_heap h) (old_name x e true u q.0) hm).0
+          ];
           backs = λ e m b. others_stay e (back_other p pl (c ∷ calls) e m b) ∙ g.framed.backs e m b;
           links = λ e m b. others_stay e (link_other p pl (c ∷ calls) e m b) ∙ g.framed.links e m b;
         };

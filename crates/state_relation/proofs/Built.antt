@@ -1,5 +1,5 @@
 -- A program with its code.
-use Rattle.std.proofs.Common.{◌≡◌, ℕ, ◌+◌, ◌^◌, ◌<◌, ◌≤◌, false, Some, ap}
+use Rattle.std.proofs.Common.{◌≡◌, ℕ, ◌^◌, ◌<◌, ◌≤◌, Some, ap}
 use Rattle.std.specs.Prelude.{slice_get}
 use Rattle.typed_syntax.specs.Types.{width}
 use Rattle.typed_syntax.specs.Syntax.{Func, Program, site_type}
@@ -10,13 +10,16 @@ use Rattle.meaning.specs.Meaning.{Item}
 use Rattle.meaning.specs.Output.{Limits}
 use Rattle.isa.specs.Code.{Tables}
 use Rattle.program_code.proofs.Compiled.{Compiled}
+use Rattle.state_relation.specs.Relation.{Leading, to_none}
 use Rattle.state_relation.specs.Alike.{AreNumbers}
 
--- A program in form, which variables live on the heap, its code, the most words that the stack and the heap may have, and the items of
--- the input.
+-- A program in form, which variables live on the heap, where pointers and slices lead, which is nowhere as long as nothing in form makes
+-- any, its code, the most words that the stack and the heap may have, and the items of the input.
 pub record Built : Type 0 where
   pub program : Program
   pub placement : Placement
+  pub leading : Leading
+  pub bare : leading ≡ to_none
   pub code : Tables
   pub max : ℕ
   pub heap_max : ℕ

@@ -11,7 +11,7 @@ use Rattle.frames.specs.Frames.{frame_in, frame_of, outgoing_of}
 use Rattle.meaning.specs.Trace.{Call as Called, Return as Returned, Born, Exit, StackLimit, HeapLimit, World, Trace, Note, End}
 use Rattle.meaning.specs.Output.{last, used_by, tail_of}
 use Rattle.simulation.specs.Outcome as Outcome
-use Rattle.simulation.specs.Steps.{Goes, Stops}
+use Rattle.simulation.specs.Steps.{Goes}
 use Rattle.isa.specs.Code.{Tables}
 use Rattle.isa.specs.declared.instr.Instr.TheVariants.{Call, Return}
 use Rattle.machine.specs.Machine.{State, Does, slot, put_words, words_at, zeroed, entered, address_of, calls as calling, stops, first_return, calls_function, follows_call, goes_back, owner_of, frame_of as code_frame}
@@ -46,7 +46,7 @@ turned_round n max x y = elim (leb_tells n max) [
 module _ (m : Built) where
   -- contents of these types lie in the outgoing area of the newest of these calls, from a slot on, also while it waits
   abbrev pub Passing : View → World → List Frame → List TypeTree → List Content → (a : ℕ) → Memory → Type 0
-  Passing v w calls ls cs a s = (j : ℕ) → j < length ls → StandsFor v.homes s.hi w (get_or ls j ints) (get_or cs j nothing) (word_at s.words (depth m.program m.placement calls - (a + j)))
+  Passing v w calls ls cs a s = (j : ℕ) → j < length ls → StandsFor m.program m.leading v.homes s.hi w (get_or ls j ints) (get_or cs j nothing) (word_at s.words (depth m.program m.placement calls - (a + j)))
 
   -- a call of a function from these ends after an instruction that calls it
   pub record Behind (f : ℕ) (c : Frame) : Type 0 where
@@ -64,32 +64,32 @@ module _ (m : Built) where
   passing_none v w calls cs a s j l = absurd (omega arith)
 
   -- they are put there
-  pub passing_put : (v : View) (w : World) (c : Frame) (calls : List Frame) (s : Memory) (ls : List TypeTree) (cs : List Content) (a : ℕ) (xs : List ℕ) → a + length ls ≤ outgoing_of m.program c.func → Stand v.homes s.hi w ls cs xs → Stands m v w (c ∷ calls) s → Passing v w (c ∷ calls) ls cs a (puts s a xs)
+  pub passing_put : (v : View) (w : World) (c : Frame) (calls : List Frame) (s : Memory) (ls : List TypeTree) (cs : List Content) (a : ℕ) (xs : List ℕ) → a + length ls ≤ outgoing_of m.program c.func → Stand m.program m.leading v.homes s.hi w ls cs xs → Stands m v w (c ∷ calls) s → Passing v w (c ∷ calls) ls cs a (puts s a xs)
   passing_put v w c calls s ls cs a xs room st g j l =
       let u = g.sized.used in let n = st.long in
-      subst (λ x. StandsFor v.homes s.hi w (get_or ls j ints) (get_or cs j nothing) x) (sym (put_same s.words a xs j (depth m.program m.placement (c ∷ calls) - (a + j)) (omega arith) (omega arith) (omega arith))) (st.each j l)
+      subst (λ x. StandsFor m.program m.leading v.homes s.hi w (get_or ls j ints) (get_or cs j nothing) x) (sym (put_same s.words a xs j (depth m.program m.placement (c ∷ calls) - (a + j)) (omega arith) (omega arith) (omega arith))) (st.each j l)
 
   -- and read, by the call itself and by one that it makes
-  pub passing_read : (v : View) (w : World) (c : Frame) (calls : List Frame) (s : Memory) (ls : List TypeTree) (cs : List Content) (a : ℕ) → a + length ls ≤ outgoing_of m.program c.func → Stands m v w (c ∷ calls) s → Passing v w (c ∷ calls) ls cs a s → Stand v.homes s.hi w ls cs (words_at s.words a (length ls))
+  pub passing_read : (v : View) (w : World) (c : Frame) (calls : List Frame) (s : Memory) (ls : List TypeTree) (cs : List Content) (a : ℕ) → a + length ls ≤ outgoing_of m.program c.func → Stands m v w (c ∷ calls) s → Passing v w (c ∷ calls) ls cs a s → Stand m.program m.leading v.homes s.hi w ls cs (words_at s.words a (length ls))
   passing_read v w c calls s ls cs a room g pass = record {
     long = (let u = g.sized.used in read_length s.words a (length ls) (omega arith));
     each = λ j l. (let u = g.sized.used in
-        subst (λ x. StandsFor v.homes s.hi w (get_or ls j ints) (get_or cs j nothing) x) (word_slot s.words (depth m.program m.placement (c ∷ calls)) (a + j) u (omega arith) ∙ sym (read_index s.words a (length ls) j l)) (pass j l));
+        subst (λ x. StandsFor m.program m.leading v.homes s.hi w (get_or ls j ints) (get_or cs j nothing) x) (word_slot s.words (depth m.program m.placement (c ∷ calls)) (a + j) u (omega arith) ∙ sym (read_index s.words a (length ls) j l)) (pass j l));
   }
 
   pub passing_above : (v : View) (w : World) (c up : Frame) (calls : List Frame) (s : Memory) (ls : List TypeTree) (cs : List Content) (a : ℕ) → a + length ls ≤ outgoing_of m.program up.func → Stands m v w (c ∷ up ∷ calls) s → Passing v w (up ∷ calls) ls cs a s
-      → Stand v.homes s.hi w ls cs (words_at s.words (frame_of m.program m.placement c.func + a) (length ls))
+      → Stand m.program m.leading v.homes s.hi w ls cs (words_at s.words (frame_of m.program m.placement c.func + a) (length ls))
   passing_above v w c up calls s ls cs a room g pass = record {
     long = (let u = g.sized.used in read_length s.words (frame_of m.program m.placement c.func + a) (length ls) (omega arith));
     each = λ j l. (let u = g.sized.used in
         let e : depth m.program m.placement (up ∷ calls) - (a + j) ≡ depth m.program m.placement (c ∷ up ∷ calls) - (frame_of m.program m.placement c.func + a + j) = omega arith in
-        subst (λ x. StandsFor v.homes s.hi w (get_or ls j ints) (get_or cs j nothing) x)
+        subst (λ x. StandsFor m.program m.leading v.homes s.hi w (get_or ls j ints) (get_or cs j nothing) x)
         (ap (word_at s.words) e ∙ word_slot s.words (depth m.program m.placement (c ∷ up ∷ calls)) (frame_of m.program m.placement c.func + a + j) u (omega arith) ∙ sym (read_index s.words (frame_of m.program m.placement c.func + a) (length ls) j l)) (pass j l));
   }
 
   -- a call puts words into the outgoing area of the one above it
   pub good_above : (v : View) (w : World) (c up : Frame) (calls : List Frame) (s : Memory) (a : ℕ) (xs : List ℕ) → a + length xs ≤ outgoing_of m.program up.func → Stands m v w (c ∷ up ∷ calls) s → Stands m v w (c ∷ up ∷ calls) (puts s (frame_of m.program m.placement c.func + a) xs)
-  good_above v w c up calls s a xs room g = good_words m.program m.placement m.max v w (c ∷ up ∷ calls) s (put_words s.words from xs) (put_length s.words from xs fits) (λ d n. stays d n) g
+  good_above v w c up calls s a xs room g = good_words m.program m.placement m.max m.leading v w (c ∷ up ∷ calls) s (put_words s.words from xs) (put_length s.words from xs fits) (λ d n. stays d n) g
     where
       from : ℕ
       from = frame_of m.program m.placement c.func + a
@@ -102,11 +102,11 @@ module _ (m : Built) where
       stays d (inr (inl own)) = let u = g.sized.used in put_other s.words from xs d fits (inr (omega (arith, own.0, own.1)))
       stays d (inr (inr up1)) = let b = needed_within m.program m.placement calls d up1 in let u = g.sized.used in put_other s.words from xs d fits (inr (omega (arith, b)))
 
-  pub passing_put_above : (v : View) (w : World) (c up : Frame) (calls : List Frame) (s : Memory) (ls : List TypeTree) (cs : List Content) (a : ℕ) (xs : List ℕ) → a + length ls ≤ outgoing_of m.program up.func → Stand v.homes s.hi w ls cs xs → Stands m v w (c ∷ up ∷ calls) s
+  pub passing_put_above : (v : View) (w : World) (c up : Frame) (calls : List Frame) (s : Memory) (ls : List TypeTree) (cs : List Content) (a : ℕ) (xs : List ℕ) → a + length ls ≤ outgoing_of m.program up.func → Stand m.program m.leading v.homes s.hi w ls cs xs → Stands m v w (c ∷ up ∷ calls) s
       → Passing v w (up ∷ calls) ls cs a (puts s (frame_of m.program m.placement c.func + a) xs)
   passing_put_above v w c up calls s ls cs a xs room st g j l =
       let u = g.sized.used in let n = st.long in
-      subst (λ x. StandsFor v.homes s.hi w (get_or ls j ints) (get_or cs j nothing) x) (sym (put_same s.words (frame_of m.program m.placement c.func + a) xs j (depth m.program m.placement (up ∷ calls) - (a + j)) (omega arith) (omega arith) (omega arith))) (st.each j l)
+      subst (λ x. StandsFor m.program m.leading v.homes s.hi w (get_or ls j ints) (get_or cs j nothing) x) (sym (put_same s.words (frame_of m.program m.placement c.func + a) xs j (depth m.program m.placement (up ∷ calls) - (a + j)) (omega arith) (omega arith) (omega arith))) (st.each j l)
 
   -- ---- a call
 
@@ -151,7 +151,7 @@ module _ (m : Built) where
           ∙ ap (λ n. if nat_le (n + frame) m.max then Goes [] (state_of m place.start (next s)) else stops (state_of m pc s) (Limit n frame m.max)) g.sized.used
 
       good0 : (s : Memory) → Stands m v w (c ∷ calls) s → Stands m v w (placed c (pc + 1) ∷ calls) (record s { words = cleared s })
-      good0 s g = good_placed m.program m.placement m.max v w c calls (record s { words = cleared s }) (pc + 1) (good_free m.program m.placement m.max v w c calls s (argument_words func) (replicate (result_words func) 0) (inr (omega (arith, none))) g)
+      good0 s g = good_placed m.program m.placement m.max m.leading v w c calls (record s { words = cleared s }) (pc + 1) (good_free m.program m.placement m.max m.leading v w c calls s (argument_words func) (replicate (result_words func) 0) (inr (omega (arith, none))) g)
 
       linked : (s : Memory) → Stands m v w (c ∷ calls) s → link s ≡ s.hi - depth m.program m.placement calls
       linked s g =
@@ -161,13 +161,13 @@ module _ (m : Built) where
 
       good1 : (s : Memory) → Stands m v w (c ∷ calls) s → deep + frame ≤ m.max → Stands m (after_call v f) w (fresh f func ∷ placed c (pc + 1) ∷ calls) (next s)
       good1 s g fits =
-          call_enters m.program m.placement m.max v w f func (placed c (pc + 1) ∷ calls) (record s { words = cleared s }) (link s) (pc + 1) named g.homed.begun (let h = g.sized.full in omega arith) (linked s g) refl (good0 s g)
+          call_enters m.program m.placement m.max m.leading v w f func (placed c (pc + 1) ∷ calls) (record s { words = cleared s }) (link s) (pc + 1) named g.homed.begun (let h = g.sized.full in omega arith) (linked s g) refl (good0 s g)
 
       pass1 : (s : Memory) → Stands m v w (c ∷ calls) s → Passing v w (c ∷ calls) ls cs 0 s → Passing (after_call v f) w (c ∷ calls) ls cs 0 (next s)
       pass1 s g pass j l =
           let u = g.sized.used in
           let same : length (cleared s) ≡ length s.words = put_length s.words (argument_words func) (replicate (result_words func) 0) (omega (arith, none)) in
-          subst (λ x. StandsFor v.homes s.hi w (get_or ls j ints) (get_or cs j nothing) x)
+          subst (λ x. StandsFor m.program m.leading v.homes s.hi w (get_or ls j ints) (get_or cs j nothing) x)
           (sym (entered_keeps frame (link s) (pc + 1) (cleared s) (deep - (0 + j)) (omega arith) (omega (arith, same))
           ∙ put_other s.words (argument_words func) (replicate (result_words func) 0) (deep - (0 + j)) (omega (arith, none)) (inl (omega arith)))) (pass j l)
 
@@ -206,7 +206,7 @@ module _ (m : Built) where
       → At m lo 0 b (after_return (limits_of m) v) t (λ s. Stands m (after_return (limits_of m) v) w (up ∷ calls) s × Passing (after_return (limits_of m) v) w (up ∷ calls) ls cs a s) up.place
       → At m (suc lo) 1 b v (Note Returned t) (λ s. Stands m v w (c ∷ up ∷ calls) s × Passing v w (up ∷ calls) ls cs a s) pc
   returned c up calls v w ls cs a pc lo b t here own from room post =
-      stepped_as m {lo = lo} {hi = 0} {v1 = after_return (limits_of m) v} {t1 = t} Return next here (λ r. refl) (λ s g. (does s g.0, refl, (call_leaves m.program m.placement m.max (limits_of m) (frames_are m) v w c (up ∷ calls) s g.0, passed s g.0 g.1))) post
+      stepped_as m {lo = lo} {hi = 0} {v1 = after_return (limits_of m) v} {t1 = t} Return next here (λ r. refl) (λ s g. (does s g.0, refl, (call_leaves m.program m.placement m.max m.leading (limits_of m) (frames_are m) v w c (up ∷ calls) s g.0, passed s g.0 g.1))) post
     where
       fr : ℕ
       fr = frame_of m.program m.placement c.func
@@ -217,8 +217,8 @@ module _ (m : Built) where
       passed : (s : Memory) → Stands m v w (c ∷ up ∷ calls) s → Passing v w (up ∷ calls) ls cs a s → Passing (after_return (limits_of m) v) w (up ∷ calls) ls cs a (next s)
       passed s g pass j l =
           let u = g.sized.used in let homes1 = (after_return (limits_of m) v).homes in
-          subst (λ x. StandsFor homes1 s.hi w (get_or ls j ints) (get_or cs j nothing) x) (sym (dropped s.words fr (depth m.program m.placement (up ∷ calls) - (a + j)) (omega arith)))
-          (stands_later v.homes homes1 s.hi w w (get_or ls j ints) (get_or cs j nothing) _ (return_later m.program m.placement m.max v.homes (used_by (limits_of m) (tail_of v.calls)) w) (pass j l))
+          subst (λ x. StandsFor m.program m.leading homes1 s.hi w (get_or ls j ints) (get_or cs j nothing) x) (sym (dropped s.words fr (depth m.program m.placement (up ∷ calls) - (a + j)) (omega arith)))
+          (stands_later m.program m.leading v.homes homes1 s.hi w w (get_or ls j ints) (get_or cs j nothing) _ (return_later m.program m.placement m.max m.leading v.homes (used_by (limits_of m) (tail_of v.calls)) w) (pass j l))
 
       above : ℕ
       above = code_frame m.code (owner_of m.code (up.place - 1))

@@ -1,7 +1,7 @@
 -- Words by their distance from the stack's upper end, which is the same wherever the lower end lies.
-use Rattle.std.proofs.Common.{◌≡◌, ◌≢◌, ◌⊎◌, inl, inr, ℕ, zero, suc, ◌+◌, ◌-◌, ◌<◌, ◌≤◌, List, [], ◌∷◌, ◌++◌, length, refl, ap, ◌∙◌, arith, length-append, length-set, get_or-set_same, get_or-set_other}
+use Rattle.std.proofs.Common.{◌≡◌, ◌≢◌, ◌⊎◌, inl, inr, ℕ, zero, suc, ◌+◌, ◌-◌, ◌<◌, ◌≤◌, List, [], ◌∷◌, ◌++◌, length, refl, sym, ap, ◌∙◌, arith, append_assoc, length-append, length-set, get_or-set_same, get_or-set_other}
 use Rattle.std.specs.Prelude.{slice_index, slice_set, take, drop, replicate}
-use Rattle.std.proofs.lemmas.List.{get_or-take, get_or-drop, get_or_append_left, get_or-append_right, length-take, length-drop, length-replicate}
+use Rattle.std.proofs.lemmas.List.{get_or-take, get_or-drop, get_or_append_left, get_or-append_right, length-take, length-take-le, length-drop, length-replicate, take_at, drop_at, take-append-le, take-take, drop-append-le, drop-take, drop-drop}
 use Rattle.machine.specs.Machine.{put_words, words_at, entered}
 use Rattle.state_relation.specs.Relation.{word_at}
 
@@ -10,6 +10,15 @@ pub one_word : (xs : List ℕ) (i : ℕ) → i < length xs → words_at xs i 1 �
 one_word [] i l = absurd (omega arith)
 one_word (x ∷ xs) zero l = refl
 one_word (x ∷ xs) (suc i) l = one_word xs i (omega arith)
+
+-- a word is put where it stands
+pub put_own : (xs : List ℕ) (i : ℕ) → put_words xs i (words_at xs i 1) ≡ slice_set xs i (slice_index xs i)
+put_own [] zero = refl
+put_own [] (suc i) = let e : suc i + 0 ≡ suc i = omega arith in ap (λ n. drop {A = ℕ} n []) e
+put_own (x ∷ xs) zero = refl
+put_own (x ∷ xs) (suc i) =
+    let ws = words_at xs i 1 in let e : suc i + length ws ≡ suc (i + length ws) = omega arith in
+    ap (λ n. x ∷ (take i xs ++ (ws ++ drop n (x ∷ xs)))) e ∙ ap (λ zs. x ∷ zs) (put_own xs i)
 
 pub put_one : (xs : List ℕ) (i x : ℕ) → i < length xs → put_words xs i (x ∷ []) ≡ slice_set xs i x
 put_one [] i x l = absurd (omega arith)
@@ -62,6 +71,41 @@ put_other words from put d le apart =
 pub put_same : (words : List ℕ) (from : ℕ) (put : List ℕ) (i d : ℕ) → from + length put ≤ length words → i < length put → length words - d ≡ from + i → word_at (put_words words from put) d ≡ slice_index put i
 put_same words from put i d le l e =
     ap (λ m. slice_index (put_words words from put) (m - d)) (put_length words from put le) ∙ ap (slice_index (put_words words from put)) e ∙ put_in words from put i (omega arith) l
+
+-- some words are replaced twice
+pub put_twice : (words : List ℕ) (from : ℕ) (xs ys : List ℕ) → from ≤ length words → length xs ≡ length ys → put_words (put_words words from xs) from ys ≡ put_words words from ys
+put_twice words from xs ys le same =
+    let front = take from words in let rest = drop (from + length xs) words in
+    let long : length front ≡ from = length-take-le from words le in
+    let both : length (front ++ xs) ≡ from + length ys = omega (arith, length-append front xs, long, same) in
+    let ends : from + length xs ≡ from + length ys = omega (arith, same) in
+    ap (λ l. l ++ (ys ++ drop (from + length ys) (front ++ (xs ++ rest)))) (take_at front (xs ++ rest) from long)
+    ∙ ap (λ l. front ++ (ys ++ l)) (ap (drop (from + length ys)) (sym (append_assoc front xs rest)) ∙ drop_at (front ++ xs) rest (from + length ys) both)
+    ∙ ap (λ n. front ++ (ys ++ drop n words)) ends
+
+-- words below and above those that are replaced
+pub read_below : (words : List ℕ) (from n to : ℕ) (put : List ℕ) → from + n ≤ to → to ≤ length words → words_at (put_words words to put) from n ≡ words_at words from n
+read_below words from n to put below within =
+    let front = take to words in let behind = put ++ drop (to + length put) words in
+    let long : length front ≡ to = length-take-le to words within in
+    let split : from + (to - from) ≡ to = omega (arith, below) in
+    ap (take n) (drop-append-le from front behind (omega (arith, long, below)))
+    ∙ take-append-le n (drop from front) behind (omega (arith, length-drop from front, long, below))
+    ∙ ap (take n) (ap (λ k. drop from (take k words)) (sym split) ∙ drop-take from (to - from) words)
+    ∙ take-take n (to - from) (drop from words) (omega (arith, below))
+
+pub read_above : (words : List ℕ) (from n to : ℕ) (put : List ℕ) → to + length put ≤ from → to ≤ length words → words_at (put_words words to put) from n ≡ words_at words from n
+read_above words from n to put above within =
+    let front = take to words ++ put in let past = to + length put in let rest = drop past words in
+    let long : length front ≡ past = omega (arith, length-append (take to words) put, length-take-le to words within) in
+    let on : past + (from - past) ≡ from = omega (arith, above) in
+    ap (take n)
+    (ap (drop from) (sym (append_assoc (take to words) put rest))
+    ∙ ap (λ k. drop k (front ++ rest)) (sym on)
+    ∙ sym (drop-drop (from - past) past (front ++ rest))
+    ∙ ap (drop (from - past)) (drop_at front rest past long)
+    ∙ drop-drop (from - past) past words
+    ∙ ap (λ k. drop k words) on)
 
 -- some words are read
 pub read_length : (words : List ℕ) (from n : ℕ) → from + n ≤ length words → length (words_at words from n) ≡ n

@@ -1,7 +1,7 @@
 -- The types of a part's words stand among those of the whole.
 use Rattle.std.proofs.Common.{◌≡◌, ℕ, zero, suc, ◌+◌, ◌*◌, ◌<◌, List, [], ◌∷◌, ◌++◌, length, get_or, refl, sym, ap, ◌∙◌, arith, length-append, suc-mul}
 use Rattle.std.proofs.lemmas.List.{get_or_append_left, get_or-append-add}
-use Rattle.typed_syntax.specs.Types.{TypeTree, PartTypes, ints, bools, struct_of, array_of, no_types, more_types, width, widths, repeated, part_types, types_in, nth_type, widths_before, part_count, part_type, part_offset}
+use Rattle.typed_syntax.specs.Types.{TypeTree, PartTypes, ints, bools, struct_of, array_of, pointer_to, slice_of, no_types, more_types, width, widths, repeated, part_types, types_in, nth_type, widths_before, part_count, part_type, part_offset}
 use Rattle.typed_syntax.specs.Paths.{Leads, offset}
 use Rattle.typed_syntax.specs.Syntax.{all_width}
 use Rattle.value_laws.proofs.Parts.{within}
@@ -17,6 +17,8 @@ mutual
   leaves_length bools = refl
   leaves_length (struct_of ts) = leaves_in_length ts
   leaves_length (array_of n t) = times_length n (leaves t) ∙ ap (λ m. n * m) (leaves_length t)
+  leaves_length (pointer_to n) = refl
+  leaves_length (slice_of n) = refl
 
   leaves_in_length : (ts : PartTypes) → length (leaves_in ts) ≡ widths ts
   leaves_in_length no_types = refl
@@ -36,6 +38,8 @@ parts_leaves ints i l = absurd (omega arith)
 parts_leaves bools i l = absurd (omega arith)
 parts_leaves (struct_of ts) i l = refl
 parts_leaves (array_of n t) i l = sym (leaves_repeated n t)
+parts_leaves (pointer_to n) i l = absurd (omega arith)
+parts_leaves (slice_of n) i l = absurd (omega arith)
 
 nth_leaf : (ts : PartTypes) (i j : ℕ) → i < types_in ts → j < width (nth_type ts i) → get_or (leaves_in ts) (widths_before ts i + j) ints ≡ leaf (nth_type ts i) j
 nth_leaf no_types i j l lj = absurd (omega arith)

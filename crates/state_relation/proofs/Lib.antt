@@ -8,8 +8,11 @@ pub mod Relation
 pub mod Changes
 pub mod Births
 pub mod Crossing
+pub mod Boxes
 pub mod Built
 pub mod Rules
 pub mod Values
 pub mod Touches
+pub mod Equal
+pub mod Addresses
 pub mod Calls

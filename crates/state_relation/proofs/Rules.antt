@@ -10,17 +10,19 @@ use Rattle.meaning.specs.Output as Output
 use Rattle.meaning.specs.Output.{Sight, Last, last}
 use Rattle.simulation.specs.Outcome as Outcome
 use Rattle.simulation.specs.Outcome.{Lines, Gives, Ends, Unfinished}
-use Rattle.simulation.specs.Steps.{Goes, Stops, exec, after}
+use Rattle.simulation.specs.Steps.{Goes, exec, after}
 use Rattle.simulation.specs.Follows.{Follows}
 use Rattle.simulation.proofs.Rules as Pace
 use Rattle.isa.specs.declared.instr.Instr.{Instr}
-use Rattle.isa.specs.declared.instr.Instr.TheVariants.{ArgumentWords, SetResults}
-use Rattle.machine.specs.Machine.{Event, Printed, State, Last as Stopped, Does, last_of, stops, act, act_on, puts_words, put_words, words_at, reaches, address_of, owner_of, frame_of as code_frame, frame_in as entry_frame}
+use Rattle.isa.specs.declared.instr.Direction.TheVariants.{ToSlots, FromSlots}
+use Rattle.isa.specs.declared.instr.MoveEvent.{MoveEvent}
+use Rattle.isa.specs.declared.instr.Instr.TheVariants.{Incoming, Move}
+use Rattle.machine.specs.Machine.{Event, Printed, State, Last as Stopped, Does, stops, act, act_on, puts_words, put_words, words_at, reaches, address_of, owner_of, frame_of as code_frame, frame_in as entry_frame}
 use Rattle.machine.specs.declared.run_state.Ending.{Ending as Stop}
 use Rattle.machine.specs.declared.run_state.Ending.TheVariants.{WildAddress}
-use Rattle.program_code.specs.Code.{moves, zeros}
+use Rattle.program_code.specs.Code.{zeros}
 use Rattle.state_relation.specs.Views.{View, Range, out_from}
-use Rattle.state_relation.specs.Relation.{Memory, puts, Frame, Good}
+use Rattle.state_relation.specs.Relation.{Memory, puts, sets, Frame, Good}
 use Rattle.state_relation.specs.Alike.{same_event, same_end, same_last}
 use Rattle.state_relation.proofs.Distances.{one_word, put_one}
 use Rattle.state_relation.proofs.Built.{Built, limits_of}
@@ -105,7 +107,7 @@ module _ (m : Built) where
 
   -- they stand for the world
   abbrev pub Stands : View → World → List Frame → Memory → Type 0
-  Stands v w calls s = Good m.program m.placement m.max v w calls s
+  Stands v w calls s = Good m.program m.placement m.max m.leading v w calls s
 
   -- ---- without an instruction
 
@@ -213,11 +215,10 @@ module _ (m : Built) where
   pub stays_here : (c : Frame) (calls : List Frame) (v : View) (w : World) (s : Memory) (site : ℕ) → c.func.first ≤ site → site < c.func.first + c.func.count → Stands v w (c ∷ calls) s → m.placement.on_heap site ≡ false
   stays_here c calls v w s site first last g = m.placed.stacked c.fn c.func g.homed.owned.0.named site first last
 
-  pub moved_by : (n to from pc : ℕ) (s : Memory) → 0 < n → to + n ≤ length s.words → from + n ≤ length s.words → does_at (moves n to from) pc s ≡ Goes [] (state_of (pc + 1) (puts s to (words_at s.words from n)))
-  moved_by zero to from pc s some room within = absurd (omega arith)
-  moved_by (suc zero) to from pc s some room within =
-      ap (λ ws. Goes [] (state_of (pc + 1) (record s { words = ws }))) (sym (ap (put_words s.words to) (one_word s.words from (omega arith)) ∙ put_one s.words to (slice_index s.words from) (omega arith)))
-  moved_by (suc (suc n)) to from pc s some room within = refl
+  -- one word goes to a slot
+  pub moved_one : (event : MoveEvent) (to from pc : ℕ) (s : Memory) → to < length s.words → from < length s.words → does_at (Move event to from 1) pc s ≡ Goes [] (state_of (pc + 1) (sets s to (slice_index s.words from)))
+  moved_one event to from pc s room within =
+      ap (λ ws. Goes [] (state_of (pc + 1) (record s { words = ws }))) (ap (put_words s.words to) (one_word s.words from within) ∙ put_one s.words to (slice_index s.words from) room)
 
   pub zeroed_by : (n to pc : ℕ) (s : Memory) → 0 < n → to + n ≤ length s.words → does_at (zeros n to) pc s ≡ Goes [] (state_of (pc + 1) (puts s to (replicate n 0)))
   zeroed_by zero to pc s some room = absurd (omega arith)
@@ -228,10 +229,10 @@ module _ (m : Built) where
   reached index n pc s done le = ap (λ b. if b then done else stops (state_of pc s) (WildAddress (address_of s.hi (length s.words) + index))) (le-leb (index + n) (length s.words) le)
 
   -- incoming words are read and written
-  pub argument_by : (a i n frame pc : ℕ) (s : Memory) → code_frame m.code (owner_of m.code pc) ≡ frame → frame + i + n ≤ length s.words → does_at (ArgumentWords a i n) pc s ≡ Goes [] (state_of (pc + 1) (puts s a (words_at s.words (frame + i) n)))
+  pub argument_by : (a i n frame pc : ℕ) (s : Memory) → code_frame m.code (owner_of m.code pc) ≡ frame → frame + i + n ≤ length s.words → does_at (Incoming ToSlots a i n) pc s ≡ Goes [] (state_of (pc + 1) (puts s a (words_at s.words (frame + i) n)))
   argument_by a i n frame pc s own le =
       ap (λ f. reaches (f + i) n (state_of pc s) (puts_words (state_of pc s) a (words_at s.words (f + i) n))) own ∙ reached (frame + i) n pc s (puts_words (state_of pc s) a (words_at s.words (frame + i) n)) le
 
-  pub results_by : (a i n frame pc : ℕ) (s : Memory) → code_frame m.code (owner_of m.code pc) ≡ frame → frame + i + n ≤ length s.words → does_at (SetResults a i n) pc s ≡ Goes [] (state_of (pc + 1) (puts s (frame + i) (words_at s.words a n)))
+  pub results_by : (a i n frame pc : ℕ) (s : Memory) → code_frame m.code (owner_of m.code pc) ≡ frame → frame + i + n ≤ length s.words → does_at (Incoming FromSlots a i n) pc s ≡ Goes [] (state_of (pc + 1) (puts s (frame + i) (words_at s.words a n)))
   results_by a i n frame pc s own le =
       ap (λ f. reaches (f + i) n (state_of pc s) (puts_words (state_of pc s) (f + i) (words_at s.words a n))) own ∙ reached (frame + i) n pc s (puts_words (state_of pc s) (frame + i) (words_at s.words a n)) le

@@ -9,6 +9,7 @@ use Rattle.value_laws.proofs.Parts.{within}
 use Rattle.meaning.specs.Trace.{World, Cell}
 use Rattle.simulation.specs.Steps.{Goes}
 use Rattle.heap_bump.specs.Words.{first_address}
+use Rattle.isa.specs.declared.instr.StoreEvent.{StoreEvent}
 use Rattle.isa.specs.declared.instr.Instr.TheVariants.{Load, Store}
 use Rattle.machine.specs.declared.memory.Spot.{Spot}
 use Rattle.machine.specs.declared.memory.Spot.TheVariants.{InHeap, InStack, Nowhere}
@@ -53,7 +54,7 @@ spot_heap hi heap stack h n at is room =
     ap (λ x. if x then InHeap (at - first_address) else (if lie_within low hi at n then InStack (at - low) else Nowhere)) (within_is first_address (first_address + length heap) at n (omega arith) (omega arith))
     ∙ ap InHeap back
 
-module _ (m : Built) (v : View) (w : World) (calls : List Frame) (s : Memory) (g : Good m.program m.placement m.max v w calls s) where
+module _ (m : Built) (v : View) (w : World) (calls : List Frame) (s : Memory) (g : Good m.program m.placement m.max m.leading v w calls s) where
   -- the address of a part of a variable is one of 64 bits, above 0
   pub address_some : (x : ℕ) (y : Cell) (q : Place) → slice_get w.store x ≡ Some y → v.homes x ≡ Some q → 0 < address_in s.hi q
   address_some x y (on_heap h) here home = omega arith
@@ -106,8 +107,8 @@ module _ (m : Built) (v : View) (w : World) (calls : List Frame) (s : Memory) (g
         ap (λ k. reaches_by (state_of m pc s) (address_behind k lacks) (λ at. loads_from (spot_of s.hi s.heap s.words at (width t)) (state_of m pc s) to (width t) at)) there
         ∙ comes pc (λ at. loads_from (spot_of s.hi s.heap s.words at (width t)) (state_of m pc s) to (width t) at) ∙ loads_there q home pc to
 
-    pub stored : (pc to from : ℕ) → slice_index s.words to ≡ u → does_at m (Store to lacks from (width t)) pc s ≡ Goes [] (state_of m (pc + 1) (set_place s q off (words_at s.words from (width t))))
-    stored pc to from there =
+    pub stored : (event : StoreEvent) (pc to from : ℕ) → slice_index s.words to ≡ u → does_at m (Store event to lacks from (width t)) pc s ≡ Goes [] (state_of m (pc + 1) (set_place s q off (words_at s.words from (width t))))
+    stored event pc to from there =
         let xs = words_at s.words from (width t) in
         ap (λ k. reaches_by (state_of m pc s) (address_behind k lacks) (λ at. stores_at (spot_of s.hi s.heap s.words at (width t)) (state_of m pc s) xs at)) there
         ∙ comes pc (λ at. stores_at (spot_of s.hi s.heap s.words at (width t)) (state_of m pc s) xs at) ∙ stores_there q home pc xs

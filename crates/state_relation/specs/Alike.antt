@@ -2,7 +2,7 @@
 use Rattle.std.specs.Prelude.{◌≡◌, ⊤, ℕ, List, [], get_or, IfSome, FitsSigned}
 use Rattle.std.specs.Int.{w64}
 use Rattle.typed_syntax.specs.Value.{int, bool}
-use Rattle.meaning.specs.Trace.{Ending, Exit, Panic, StackLimit, HeapLimit, Fault, divide_by_zero, shift_count, index_out_of_range, exit_code, raised_text, raised}
+use Rattle.meaning.specs.Trace.{Ending, Exit, Panic, StackLimit, HeapLimit, Fault, divide_by_zero, shift_count, nil_dereference, index_out_of_range, slice_high, slice_low, make_length, make_capacity, exit_code, raised_text, raised}
 use Rattle.meaning.specs.Meaning.{Item}
 use Rattle.meaning.specs.Output.{Sight, Last, printing, asking}
 use Rattle.machine.specs.Machine.{Event, Printed, Asked, Last as Stopped}
@@ -24,7 +24,12 @@ abbrev pub same_fault : List (List ℕ) → Fault → MachinePanic → Type 0
 same_fault strings divide_by_zero machine_panic.DivideByZero = ⊤
 same_fault strings (shift_count z) (machine_panic.ShiftCount y) = z ≡ y
 same_fault strings (exit_code z) (machine_panic.ExitCode y) = z ≡ y
+same_fault strings nil_dereference machine_panic.NilPointer = ⊤
 same_fault strings (index_out_of_range i n) (machine_panic.IndexOutOfRange j m) = (i ≡ j) × (n ≡ m)
+same_fault strings (slice_high h c) (machine_panic.SliceHigh j d) = (h ≡ j) × (c ≡ d)
+same_fault strings (slice_low l h) (machine_panic.SliceLow k j) = (l ≡ k) × (h ≡ j)
+same_fault strings (make_length n) (machine_panic.MakeLength m) = n ≡ m
+same_fault strings (make_capacity c n) (machine_panic.MakeCapacity d m) = (c ≡ d) × (n ≡ m)
 same_fault strings (raised_text bytes) (machine_panic.Text number) = bytes ≡ get_or strings number []
 same_fault strings (raised (int z)) (machine_panic.Int y) = z ≡ y
 same_fault strings (raised (bool b)) (machine_panic.Bool c) = b ≡ c

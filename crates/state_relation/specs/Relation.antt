@@ -1,11 +1,11 @@
 -- What the words of a store stand for, wherever the stack lies.
-use Rattle.std.specs.Prelude.{◌≡◌, ◌⊎◌, ℕ, ◌+◌, ◌-◌, ◌^◌, ◌<◌, ◌≤◌, false, List, [], ◌∷◌, ◌++◌, length, map, Option, Some, None, get_or, slice_get, slice_index, slice_set}
+use Rattle.std.specs.Prelude.{◌≡◌, ◌⊎◌, ℕ, ◌+◌, ◌*◌, ◌-◌, ◌^◌, ◌<◌, ◌≤◌, Bool, true, false, List, [], ◌∷◌, ◌++◌, length, map, Option, Some, None, get_or, slice_get, slice_index, slice_set}
 use Rattle.std.specs.Int.{w64, cast_signed}
-use Rattle.typed_syntax.specs.Types.{TypeTree, ints, bools, struct_of, array_of, width}
+use Rattle.typed_syntax.specs.Types.{TypeTree, ints, bools, struct_of, array_of, pointer_to, slice_of, width}
 use Rattle.typed_syntax.specs.Value.{Value, IsOf}
 use Rattle.typed_syntax.specs.Paths.{Leads, offset}
-use Rattle.typed_syntax.specs.Words.{Content, number, truth, contents}
-use Rattle.typed_syntax.specs.Syntax.{Func, Program, site_type, global_type}
+use Rattle.typed_syntax.specs.Words.{Content, number, truth, no_address, part_address, array_address, contents}
+use Rattle.typed_syntax.specs.Syntax.{Func, Program, type_named, site_type, global_type}
 use Rattle.typed_syntax.specs.Form.{InScope}
 use Rattle.frames.specs.Placement.{Placement}
 use Rattle.frames.specs.Frames.{outgoing_of, temps_of, frame_of}
@@ -14,7 +14,7 @@ use Rattle.meaning.specs.Meaning.{Env, with_home}
 use Rattle.heap_bump.specs.Words.{first_address}
 use Rattle.isa.specs.Bin.{bit_of}
 use Rattle.machine.specs.Machine.{put_words, words_at}
-use Rattle.program_code.specs.Code.{site_slot, slots_of, globals_before}
+use Rattle.program_code.specs.Code.{Slots, cell_slot, site_slot, slots_of, globals_before}
 use Rattle.state_relation.specs.Leaves.{leaf}
 use Rattle.state_relation.specs.Views.{Place, on_stack, on_heap, View}
 
@@ -120,15 +120,17 @@ set_place s (on_heap h) off xs = record s { heap = put_words s.heap (h + off) xs
 abbrev pub nothing : Content
 nothing = truth false
 
--- A word stands for a content of a type of one word. Homes, the stack's upper end and the world are for contents that lead to
--- variables.
-abbrev pub StandsFor : (ℕ → Option Place) → (hi : ℕ) → World → TypeTree → Content → ℕ → Type 0
-StandsFor homes hi w ints (number z) u = (cast_signed w64 u ≡ z) × (u < 2 ^ 64)
-StandsFor homes hi w bools (truth b) u = u ≡ bit_of b
-StandsFor homes hi w ints (truth b) u = ⊥
-StandsFor homes hi w bools (number z) u = ⊥
-StandsFor homes hi w (struct_of ts) c u = ⊥
-StandsFor homes hi w (array_of n t) c u = ⊥
+-- Which variables pointers and slices may lead to: none, as in programs in form, which make none that lead anywhere; those that live on
+-- the heap, whose homes stay; or any, also one whose home has ended.
+pub data Leading : Type 0 where
+  to_none : Leading
+  to_heap : Leading
+  to_any : Leading
+
+abbrev pub MayLead : Leading → (ℕ → Option Place) → (x : ℕ) → Type 0
+MayLead to_none homes x = ⊥
+MayLead to_heap homes x = (h : ℕ) × (homes x ≡ Some (on_heap h))
+MayLead to_any homes x = Unit {0}
 
 -- a word is the address of a part of a variable, if that has a home, where it still lacks some words
 pub record Reaches (homes : ℕ → Option Place) (hi : ℕ) (w : World) (t : TypeTree) (x : ℕ) (path : List ℕ) (lacks u : ℕ) : Type 0 where
@@ -139,15 +141,39 @@ pub record Reaches (homes : ℕ → Option Place) (hi : ℕ) (w : World) (t : Ty
   pub some : 0 < u
   pub at : (q : Place) → homes x ≡ Some q → u + lacks ≡ address_in hi q + offset cell.type path
 
-abbrev pub StandsKept : (ℕ → Option Place) → (hi : ℕ) → World → Kept → ℕ → Type 0
-StandsKept homes hi w (word t c) u = StandsFor homes hi w t c u
-StandsKept homes hi w (address t x path lacks) u = Reaches homes hi w t x path lacks u
-StandsKept homes hi w spent u = Unit {0}
+-- A word is the address of an element of the array at a path of a variable, if that has a home, where there is room for so many from
+-- the element on. Without room it may be the address behind the last one.
+pub record ReachesInto (homes : ℕ → Option Place) (hi : ℕ) (w : World) (t : TypeTree) (x : ℕ) (path : List ℕ) (first room u : ℕ) : Type 0 where
+  pub cell : Cell
+  pub there : slice_get w.store x ≡ Some cell
+  pub count : ℕ
+  pub leads : Leads cell.type path (array_of count t)
+  pub within : first + room ≤ count
+  pub some : 0 < u
+  pub at : (q : Place) → homes x ≡ Some q → u ≡ address_in hi q + (offset cell.type path + first * width t)
 
--- words hold contents of these types, one by one
-pub record Stand (homes : ℕ → Option Place) (hi : ℕ) (w : World) (ls : List TypeTree) (cs : List Content) (xs : List ℕ) : Type 0 where
-  pub long : length xs ≡ length ls
-  pub each : (j : ℕ) → j < length ls → StandsFor homes hi w (get_or ls j ints) (get_or cs j nothing) (slice_index xs j)
+module _ (p : Program) (led : Leading) where
+  -- a word stands for a content of a type of one word; what a pointer leads to has a word at least
+  abbrev pub StandsFor : (ℕ → Option Place) → (hi : ℕ) → World → TypeTree → Content → ℕ → Type 0
+  StandsFor homes hi w ints (number z) u = (cast_signed w64 u ≡ z) × (u < 2 ^ 64)
+  StandsFor homes hi w bools (truth b) u = u ≡ bit_of b
+  StandsFor homes hi w (pointer_to n) no_address u = u ≡ 0
+  StandsFor homes hi w (pointer_to n) (part_address x path) u = MayLead led homes x × (0 < width (type_named p n)) × Reaches homes hi w (type_named p n) x path 0 u
+  StandsFor homes hi w (slice_of n) no_address u = u ≡ 0
+  StandsFor homes hi w (slice_of n) (array_address x path first room) u = MayLead led homes x × ReachesInto homes hi w (type_named p n) x path first room u
+  StandsFor homes hi w (struct_of ts) c u = ⊥
+  StandsFor homes hi w (array_of n t) c u = ⊥
+  StandsFor homes hi w t c u = ⊥
+
+  abbrev pub StandsKept : (ℕ → Option Place) → (hi : ℕ) → World → Kept → ℕ → Type 0
+  StandsKept homes hi w (word t c) u = StandsFor homes hi w t c u
+  StandsKept homes hi w (address t x path lacks) u = Reaches homes hi w t x path lacks u
+  StandsKept homes hi w spent u = Unit {0}
+
+  -- words hold contents of these types, one by one
+  pub record Stand (homes : ℕ → Option Place) (hi : ℕ) (w : World) (ls : List TypeTree) (cs : List Content) (xs : List ℕ) : Type 0 where
+    pub long : length xs ≡ length ls
+    pub each : (j : ℕ) → j < length ls → StandsFor homes hi w (get_or ls j ints) (get_or cs j nothing) (slice_index xs j)
 
 -- what temps keep of words of these types
 abbrev pub keeps : List TypeTree → List Content → List Kept
@@ -159,6 +185,11 @@ keeps (l ∷ ls) (c ∷ cs) = word l c ∷ keeps ls cs
 abbrev pub contents_of : List Value → List Content
 contents_of [] = []
 contents_of (v ∷ vs) = contents v ++ contents_of vs
+
+-- where a site has its words in a frame: the cell, where its variables live on the heap, and else their words
+abbrev pub slot_of : Slots → (boxed : Bool) → (site : ℕ) → ℕ
+slot_of s true site = cell_slot s site
+slot_of s false site = site_slot s site
 
 -- ---- package variables
 
@@ -185,17 +216,17 @@ module _ (p : Program) (pl : Placement) where
   over [] = None
   over (c ∷ calls) = Some (depth calls)
 
-  -- A word of a site, whose variables live in the frame; of the variable x, at such a site in scope; of a temp that keeps something; a
-  -- return place; and a link, which leads so deep.
+  -- A word of a site, whose variables live in the frame; of the variable x, at a site in scope, or the cell of such a site whose variables
+  -- live on the heap; of a temp that keeps something; a return place; and a link, which leads so deep.
   abbrev pub SiteAt : List Frame → ℕ → TypeTree → Type 0
   SiteAt [] d t = ⊥
   SiteAt (c ∷ calls) d t =
       ((site : ℕ) × (c.func.first ≤ site) × (site < c.func.first + c.func.count) × (d ≡ depth (c ∷ calls) - site_slot (slots_of p pl c.func) site) × (site_type p site ≡ t) × (pl.on_heap site ≡ false)) ⊎ SiteAt calls d t
 
-  abbrev pub NamedAt : List Frame → (x d : ℕ) → TypeTree → Type 0
-  NamedAt [] x d t = ⊥
-  NamedAt (c ∷ calls) x d t =
-      ((site : ℕ) × InScope site c.scope × (x ≡ c.env site) × (d ≡ depth (c ∷ calls) - site_slot (slots_of p pl c.func) site) × (site_type p site ≡ t) × (pl.on_heap site ≡ false)) ⊎ NamedAt calls x d t
+  abbrev pub NamedAt : List Frame → (x d : ℕ) (boxed : Bool) → TypeTree → Type 0
+  NamedAt [] x d boxed t = ⊥
+  NamedAt (c ∷ calls) x d boxed t =
+      ((site : ℕ) × InScope site c.scope × (x ≡ c.env site) × (d ≡ depth (c ∷ calls) - slot_of (slots_of p pl c.func) boxed site) × (site_type p site ≡ t) × (pl.on_heap site ≡ boxed)) ⊎ NamedAt calls x d boxed t
 
   abbrev pub HeldAt : List Frame → ℕ → Kept → Type 0
   HeldAt [] d k = ⊥
@@ -227,15 +258,16 @@ module _ (p : Program) (pl : Placement) where
   Begun (c ∷ calls) n = length p.globals ≤ n
 
   -- What is known of homes, whatever the store is. Words of homes are apart; a home on the stack is one of a site, and one on the
-  -- heap lies among the words that are taken. The variables of sites in scope have their homes at these sites, those of the package
-  -- one after the other.
+  -- heap lies among the words that are taken. The variables of sites in scope have their homes at these sites or on the heap, those
+  -- of the package one after the other.
   pub record Homed (v : View) (w : World) (calls : List Frame) : Type 0 where
     pub sole : (x z i j : ℕ) (a b : Cell) (q r : Place) → slice_get w.store x ≡ Some a → slice_get w.store z ≡ Some b → v.homes x ≡ Some q → v.homes z ≡ Some r → i < width a.type → j < width b.type → behind q i ≡ behind r j → (x ≡ z) × (i ≡ j)
     pub known : (x : ℕ) (q : Place) → v.homes x ≡ Some q → x < length w.store
     pub stacked : (x d : ℕ) (y : Cell) → slice_get w.store x ≡ Some y → v.homes x ≡ Some (on_stack d) → SiteAt calls d y.type
     pub heaped : (x h : ℕ) (y : Cell) → slice_get w.store x ≡ Some y → v.homes x ≡ Some (on_heap h) → h + width y.type ≤ v.heap
-    pub named : (x d : ℕ) (t : TypeTree) → NamedAt calls x d t → (y : Cell) × (slice_get w.store x ≡ Some y) × (y.type ≡ t)
-    pub slots : (x d : ℕ) (t : TypeTree) → NamedAt calls x d t → v.homes x ≡ Some (on_stack d)
+    pub named : (x d : ℕ) (boxed : Bool) (t : TypeTree) → NamedAt calls x d boxed t → (y : Cell) × (slice_get w.store x ≡ Some y) × (y.type ≡ t)
+    pub slots : (x d : ℕ) (t : TypeTree) → NamedAt calls x d false t → v.homes x ≡ Some (on_stack d)
+    pub boxes : (x d : ℕ) (t : TypeTree) → NamedAt calls x d true t → (h : ℕ) × (v.homes x ≡ Some (on_heap h))
     pub globals : (g : ℕ) → g < length p.globals → g < length w.store → (y : Cell) × (slice_get w.store g ≡ Some y) × (y.type ≡ global_type p g) × (v.homes g ≡ Some (on_heap (words_before p g)))
     pub begun : Begun calls (length w.store)
     pub typed : (x : ℕ) (y : Cell) → slice_get w.store x ≡ Some y → IsOf y.type y.value
@@ -244,18 +276,19 @@ module _ (p : Program) (pl : Placement) where
     pub owned : AllOwn calls
 
   -- each word of each variable with a home stands for its content
-  abbrev pub Cells : (ℕ → Option Place) → (hi : ℕ) → World → (words heap : List ℕ) → Type 0
-  Cells homes hi w words heap =
-      (x j : ℕ) (y : Cell) (q : Place) → slice_get w.store x ≡ Some y → homes x ≡ Some q → j < width y.type → StandsFor homes hi w (leaf y.type j) (get_or (contents y.value) j nothing) (word_in words heap (behind q j))
+  abbrev pub Cells : Leading → (ℕ → Option Place) → (hi : ℕ) → World → (words heap : List ℕ) → Type 0
+  Cells led homes hi w words heap =
+      (x j : ℕ) (y : Cell) (q : Place) → slice_get w.store x ≡ Some y → homes x ≡ Some q → j < width y.type → StandsFor p led homes hi w (leaf y.type j) (get_or (contents y.value) j nothing) (word_in words heap (behind q j))
 
   -- the word of a link: that of the first frame is 0
   abbrev pub link_word : (hi : ℕ) → Option ℕ → ℕ
   link_word hi None = 0
   link_word hi (Some e) = hi - e
 
-  -- the other words of the frames
-  pub record Framed (homes : ℕ → Option Place) (hi : ℕ) (w : World) (calls : List Frame) (words : List ℕ) : Type 0 where
-    pub kept : (d : ℕ) (k : Kept) → HeldAt calls d k → StandsKept homes hi w k (word_at words d)
+  -- the other words of the frames; a cell has the address of its variable
+  pub record Framed (led : Leading) (homes : ℕ → Option Place) (hi : ℕ) (w : World) (calls : List Frame) (words : List ℕ) : Type 0 where
+    pub kept : (d : ℕ) (k : Kept) → HeldAt calls d k → StandsKept p led homes hi w k (word_at words d)
+    pub boxed : (x d h : ℕ) (t : TypeTree) → NamedAt calls x d true t → homes x ≡ Some (on_heap h) → word_at words d ≡ first_address + h
     pub backs : (d place : ℕ) → BackAt calls d place → word_at words d ≡ place
     pub links : (d : ℕ) (e : Option ℕ) → LinkAt calls d e → word_at words d ≡ link_word hi e
 
@@ -273,8 +306,8 @@ module _ (p : Program) (pl : Placement) where
       pub small : heap ≤ 2 ^ 32
 
     -- how a store stands for the world, with these calls, seen so
-    pub record Good (v : View) (w : World) (calls : List Frame) (s : Memory) : Type 0 where
+    pub record Good (led : Leading) (v : View) (w : World) (calls : List Frame) (s : Memory) : Type 0 where
       pub homed : Homed v w calls
-      pub cells : Cells v.homes s.hi w s.words s.heap
-      pub framed : Framed v.homes s.hi w calls s.words
+      pub cells : Cells led v.homes s.hi w s.words s.heap
+      pub framed : Framed led v.homes s.hi w calls s.words
       pub sized : Sized v.heap w.reads calls s
