@@ -317,9 +317,9 @@ entry_need l (None ∷ ps) (t ∷ ts) = entry_need l ps ts
 entry_need l (Some site ∷ ps) (t ∷ ts) = max (if l.on_heap site then width t else 0) (entry_need l ps ts)
 
 module _ (p : Program) (l : Placement) where
-  -- the temps of a function, and the words of its frame
+  -- the temps of a function, which gives back its results with names through temps, and the words of its frame
   abbrev pub temps_of : Func → ℕ
-  temps_of f = max (entry_need l f.params f.param_types) (sts_need p f.named f.body)
+  temps_of f = max (entry_need l f.params f.param_types) (max (widest p f.named) (sts_need p f.named f.body))
 
   abbrev pub frame_of : Func → ℕ
   frame_of f = 2 + words_between l p.sites f.first f.count + cells_between l f.first f.count + temps_of f + outgoing_of p f

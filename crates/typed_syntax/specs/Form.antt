@@ -5,9 +5,9 @@ use Rattle.typed_syntax.specs.declared.operators.BinOp.{BinOp}
 use Rattle.typed_syntax.specs.declared.operators.BinOp.TheVariants.{Add, Sub, Equal, NotEqual, Less, LessEqual, Greater, GreaterEqual}
 use Rattle.typed_syntax.specs.declared.operators.UnOp.{UnOp}
 use Rattle.typed_syntax.specs.declared.operators.UnOp.TheVariants.{Not}
-use Rattle.typed_syntax.specs.Types.{TypeTree, ints, bools, array_of, width, part_count, part_type}
+use Rattle.typed_syntax.specs.Types.{TypeTree, PartTypes, ints, bools, struct_of, array_of, pointer_to, slice_of, no_types, more_types, width, part_count, part_type}
 use Rattle.typed_syntax.specs.Value.{Value, int, bool, IsOf, FitsWords, LeadsNowhere}
-use Rattle.typed_syntax.specs.Syntax.{Ex, Exs, Pl, Left, Piece, Over, St, Sts, Func, Program, constant, read, unary, binary, logical_and, logical_or, call, part_of, literal, Elements, no_elements, element, local, global, none, more, results, read_int, blank, new, to, text, shown, over_int, over_length, over_copy, over_slice, over_pointer, over_pointed, declare, assign, update, bump, discard, block, if_stmt, for_stmt, range, break_stmt, continue_stmt, return_stmt, print, panic, exit, done, next, Steps, here, inner, at_index, argument_words, result_words, type_named, site_type, global_type}
+use Rattle.typed_syntax.specs.Syntax.{Ex, Exs, Pl, Left, Piece, Over, St, Sts, Func, Program, constant, read, unary, binary, logical_and, logical_or, call, part_of, literal, Elements, no_elements, element, nil, address_of, new_variable, literal_variable, slice_literal, make, append, append_slice, copy, slicing, array_slicing, len, cap, Bound, absent, bound, local, global, indirect, slice_element, none, more, results, read_int, blank, new, to, text, shown, over_int, over_length, over_copy, over_slice, over_pointer, over_pointed, declare, assign, update, bump, discard, block, if_stmt, for_stmt, range, break_stmt, continue_stmt, return_stmt, print, panic, exit, done, next, Steps, here, inner, at_index, argument_words, result_words, type_named, site_type, is_taken, global_type}
 
 -- ---- types
 
@@ -36,19 +36,48 @@ IsArithmetic Greater = ⊥
 IsArithmetic GreaterEqual = ⊥
 IsArithmetic op = ⊤
 
--- values of a type can be compared: they have a word at least
+-- a value of a type has no slice in it
+abbrev mutual
+  pub HasNoSlice : TypeTree → Type 0
+  HasNoSlice ints = Unit {0}
+  HasNoSlice bools = Unit {0}
+  HasNoSlice (struct_of ts) = HaveNoSlice ts
+  HasNoSlice (array_of n t) = HasNoSlice t
+  HasNoSlice (pointer_to n) = Unit {0}
+  HasNoSlice (slice_of n) = ⊥
+
+  pub HaveNoSlice : PartTypes → Type 0
+  HaveNoSlice no_types = Unit {0}
+  HaveNoSlice (more_types t ts) = HasNoSlice t × HaveNoSlice ts
+
+-- values of a type can be compared: they have a word at least, and no slice
 abbrev pub IsComparable : TypeTree → Type 0
-IsComparable t = 0 < width t
+IsComparable t = (0 < width t) × HasNoSlice t
+
+-- `nil`, which each pointer and each slice can be compared with
+abbrev pub IsNil : Ex → Type 0
+IsNil (nil n) = Unit {0}
+IsNil e = ⊥
+
+-- two operands of a type can be compared
+abbrev pub AreCompared : TypeTree → Ex → Ex → Type 0
+AreCompared t a b = IsComparable t ⊎ (IsNil a ⊎ IsNil b)
+
+-- a pointer or a slice may lead nowhere
+abbrev pub IsNilable : TypeTree → Type 0
+IsNilable (pointer_to n) = Unit {0}
+IsNilable (slice_of n) = Unit {0}
+IsNilable t = ⊥
 
 -- the type of an operator's operands, and of what it gives
-abbrev pub Takes : BinOp → (operands result : TypeTree) → Type 0
-Takes Equal s t = IsComparable s × (t ≡ bools)
-Takes NotEqual s t = IsComparable s × (t ≡ bools)
-Takes Less s t = (s ≡ ints) × (t ≡ bools)
-Takes LessEqual s t = (s ≡ ints) × (t ≡ bools)
-Takes Greater s t = (s ≡ ints) × (t ≡ bools)
-Takes GreaterEqual s t = (s ≡ ints) × (t ≡ bools)
-Takes op s t = (s ≡ ints) × (t ≡ ints)
+abbrev pub Takes : BinOp → (a b : Ex) → (operands result : TypeTree) → Type 0
+Takes Equal a b s t = AreCompared s a b × (t ≡ bools)
+Takes NotEqual a b s t = AreCompared s a b × (t ≡ bools)
+Takes Less a b s t = (s ≡ ints) × (t ≡ bools)
+Takes LessEqual a b s t = (s ≡ ints) × (t ≡ bools)
+Takes Greater a b s t = (s ≡ ints) × (t ≡ bools)
+Takes GreaterEqual a b s t = (s ≡ ints) × (t ≡ bools)
+Takes op a b s t = (s ≡ ints) × (t ≡ ints)
 
 abbrev pub TakesOne : UnOp → TypeTree → Type 0
 TakesOne Not t = t ≡ bools
@@ -161,13 +190,29 @@ abbrev mutual
 -- ---- what fits in a program
 
 module _ (p : Program) where
+  -- a pointer or a slice may lead to the variables that a place begins at; those of the package, and what is reached through another one,
+  -- stay wherever they are
+  abbrev pub IsTaken : Pl → Type 0
+  IsTaken (local site steps) = is_taken p site ≡ true
+  IsTaken q = Unit {0}
+
+  -- a pointer to variables of a site, which an expression makes
+  abbrev pub LeadsToSite : TypeTree → (site : ℕ) → Type 0
+  LeadsToSite t site = (n : ℕ) × (t ≡ pointer_to n) × (type_named p n ≡ site_type p site) × (is_taken p site ≡ true)
+
+  -- a slice of elements of a site's type, whose arrays an expression makes
+  abbrev pub ElementsOfSite : TypeTree → (site : ℕ) → Type 0
+  ElementsOfSite t site = (n : ℕ) × (t ≡ slice_of n) × (type_named p n ≡ site_type p site) × (is_taken p site ≡ true)
+
   abbrev mutual
     -- a place whose part is of a type, which has a word at least
     pub PlFits : List ℕ → TypeTree → Pl → Type 0
     PlFits scope t (local site steps) = InScope site scope × StepsLead scope (site_type p site) steps t × (0 < width t)
     PlFits scope t (global g steps) = (g < length p.globals) × StepsLead scope (global_type p g) steps t × (0 < width t)
-    -- places that are reached through pointers and slices have no code yet
-    PlFits scope t q = ⊥
+    -- what a pointer leads to is named by its type's number
+    PlFits scope t (indirect at e n steps) = ExFits scope (pointer_to n) e × StepsLead scope (type_named p n) steps t × (0 < width t)
+    -- and what the elements of a slice are
+    PlFits scope t (slice_element at e i n steps) = ExFits scope (slice_of n) e × ExFits scope ints i × StepsLead scope (type_named p n) steps t × (0 < width t)
 
     -- steps lead from values of a type to parts of a type
     pub StepsLead : List ℕ → TypeTree → Steps → TypeTree → Type 0
@@ -180,14 +225,36 @@ module _ (p : Program) where
     ExFits scope t (constant v) = IsOf t v × IsWord v
     ExFits scope t (read q) = PlFits scope t q
     ExFits scope t (unary op e) = TakesOne op t × ExFits scope t e
-    ExFits scope t (binary at op a b) = (s : TypeTree) × Takes op s t × ExFits scope s a × ExFits scope s b
+    ExFits scope t (binary at op a b) = (s : TypeTree) × Takes op a b s t × ExFits scope s a × ExFits scope s b
     ExFits scope t (logical_and a b) = (t ≡ bools) × ExFits scope bools a × ExFits scope bools b
     ExFits scope t (logical_or a b) = (t ≡ bools) × ExFits scope bools a × ExFits scope bools b
     ExFits scope t (call f es) = (func : Func) × (slice_get p.funcs f ≡ Some func) × (func.results ≡ t ∷ []) × ExsFit scope func.param_types es
     ExFits scope t (part_of n i e) = (i < part_count (type_named p n)) × (part_type (type_named p n) i ≡ t) × (0 < width t) × ExFits scope (type_named p n) e
     ExFits scope t (literal n es) = (type_named p n ≡ t) × (0 < width t) × ElementsFit scope t es
-    -- what makes or follows pointers and slices has no code yet
-    ExFits scope t e = ⊥
+    ExFits scope t (nil n) = (type_named p n ≡ t) × IsNilable t
+    ExFits scope t (address_of q) = (n : ℕ) × (t ≡ pointer_to n) × PlFits scope (type_named p n) q × IsTaken q
+    ExFits scope t (new_variable site) = LeadsToSite t site
+    ExFits scope t (literal_variable site e) = LeadsToSite t site × ExFits scope (site_type p site) e
+    ExFits scope t (slice_literal site es) = ElementsOfSite t site × AllFit scope (site_type p site) es
+    ExFits scope t (make at site count room) = ElementsOfSite t site × ExFits scope ints count × BoundFits scope room
+    ExFits scope t (append site e es) = ElementsOfSite t site × ExFits scope t e × AllFit scope (site_type p site) es
+    ExFits scope t (append_slice site e s) = ElementsOfSite t site × ExFits scope t e × ExFits scope t s
+    ExFits scope t (copy n target source) = (t ≡ ints) × (0 < width (type_named p n)) × ExFits scope (slice_of n) target × ExFits scope (slice_of n) source
+    ExFits scope t (slicing at n e low high) = (t ≡ slice_of n) × (0 < width (type_named p n)) × ExFits scope t e × BoundFits scope low × BoundFits scope high
+    ExFits scope t (array_slicing at q x low high) =
+        (n : ℕ) × (t ≡ slice_of n) × (x < 2 ^ 63) × PlFits scope (array_of x (type_named p n)) q × IsTaken q × BoundFits scope low × BoundFits scope high
+    ExFits scope t (len e) = (t ≡ ints) × ((n : ℕ) × ExFits scope (slice_of n) e)
+    ExFits scope t (cap e) = (t ≡ ints) × ((n : ℕ) × ExFits scope (slice_of n) e)
+
+    pub BoundFits : List ℕ → Bound → Type 0
+    BoundFits scope absent = Unit {0}
+    BoundFits scope (bound e) = ExFits scope ints e
+
+    -- elements of one type, each an expression of its own
+    pub AllFit : List ℕ → TypeTree → Exs → Type 0
+    AllFit scope t none = Unit {0}
+    AllFit scope t (more e es) = ExFits scope t e × AllFit scope t es
+    AllFit scope t es = ⊥
 
     -- elements of a struct or an array of a type; each has a word at least
     pub ElementsFit : List ℕ → TypeTree → Elements → Type 0
@@ -208,6 +275,11 @@ module _ (p : Program) where
   LeftsFit scope m n (t ∷ ts) (new site ∷ ls) = (site ≡ m) × (m < n) × (site_type p site ≡ t) × LeftsFit scope (suc m) n ts ls
   LeftsFit scope m n (t ∷ ts) (to q ∷ ls) = PlFits scope t q × LeftsFit scope m n ts ls
   LeftsFit scope m n ts ls = ⊥
+
+  -- a left side that gets its value
+  abbrev pub IsUsed : Left → Type 0
+  IsUsed blank = ⊥
+  IsUsed l = Unit {0}
 
   abbrev pub TestFits : List ℕ → Option Ex → Type 0
   TestFits scope None = Unit {0}
@@ -235,8 +307,7 @@ module _ (p : Program) where
       StFits looped scope m n (assign ls es) = (ts : List TypeTree) × LeftsFit scope m n ts ls × ExsFit scope ts es
       StFits looped scope m n (update at q op e) = IsArithmetic op × PlFits scope ints q × ExFits scope ints e
       StFits looped scope m n (bump at q op) = IsStep op × PlFits scope ints q
-      StFits looped scope m n (discard (results f es)) = (ts : List TypeTree) × ExsFit scope ts (results f es)
-      StFits looped scope m n (discard read_int) = (ts : List TypeTree) × ExsFit scope ts read_int
+      StFits looped scope m n (discard es) = (ts : List TypeTree) × ExsFit scope ts es
       StFits looped scope m n (block ss) = StsFit looped scope m n ss
       StFits looped scope m n (if_stmt e a b) = ExFits scope bools e × StsFit looped scope m n a × StsFit looped scope (m + births_all a) n b
       StFits looped scope m n (for_stmt sites test post body) =
@@ -248,6 +319,14 @@ module _ (p : Program) where
       -- the copy comes with the word `range`, after the left sides
       StFits looped scope m n (range (over_copy site e x) key value body) =
           (r : TypeTree) × (site_type p site ≡ array_of x r) × (0 < width r) × (x < 2 ^ 63) × (site ≡ m + new_sites (key ∷ value ∷ [])) × (site < n) × ExFits scope (array_of x r) e × LeftsFit (site ∷ scope) m n (ints ∷ r ∷ []) (key ∷ value ∷ []) × StsFit true (scope_behind (site ∷ scope) (key ∷ value ∷ [])) (m + new_sites (key ∷ value ∷ []) + 1) n body
+      -- a slice is gone over as it is at the start
+      StFits looped scope m n (range (over_slice e t) key value body) =
+          (0 < width (type_named p t)) × ExFits scope (slice_of t) e × LeftsFit scope m n (ints ∷ type_named p t ∷ []) (key ∷ value ∷ []) × StsFit true (scope_behind scope (key ∷ value ∷ [])) (m + new_sites (key ∷ value ∷ [])) n body
+      -- what a pointer leads to has no copy, and without elements the pointer is not worked out
+      StFits looped scope m n (range (over_pointer at e x t) key value body) =
+          (a : ℕ) × (type_named p a ≡ array_of x (type_named p t)) × (0 < width (type_named p t)) × (x < 2 ^ 63) × IsUsed value × ExFits scope (pointer_to a) e × LeftsFit scope m n (ints ∷ type_named p t ∷ []) (key ∷ value ∷ []) × StsFit true (scope_behind scope (key ∷ value ∷ [])) (m + new_sites (key ∷ value ∷ [])) n body
+      StFits looped scope m n (range (over_pointed x) key blank body) =
+          (x < 2 ^ 63) × LeftsFit scope m n (ints ∷ []) (key ∷ []) × StsFit true (scope_behind scope (key ∷ [])) (m + new_sites (key ∷ [])) n body
       StFits looped scope m n break_stmt = looped ≡ true
       StFits looped scope m n continue_stmt = looped ≡ true
       StFits looped scope m n (return_stmt es) = ReturnFits scope wanted named es

@@ -1,5 +1,5 @@
 -- The typed program as abstract syntax, without vectors and pointers.
-use Rattle.std.specs.Prelude.{ℕ, suc, pos, ◌+◌, ◌-◌, Bool, true, ◌&&◌, nat_le, List, [], ◌∷◌, Option, Some, None, get_or, slice_get}
+use Rattle.std.specs.Prelude.{ℕ, suc, pos, ◌+◌, ◌-◌, Bool, true, false, ◌&&◌, nat_le, List, [], ◌∷◌, Option, Some, None, get_or, slice_get}
 use Rattle.typed_syntax.specs.Positions.{Position}
 use Rattle.typed_syntax.specs.Types.{TypeTree, ints, width, part_type, part_offset}
 use Rattle.typed_syntax.specs.Value.{Value, int}
@@ -152,12 +152,13 @@ pub record Func : Type 0 where
   pub named : List ℕ
   pub body : Sts
 
--- the functions, the types by their numbers, the type of each site, the bytes of each string, the package variables with their sites and their first
--- values, and the number of `main`
+-- the functions, the types by their numbers, the type of each site, whether the address of its variables or of a part of them is taken, the
+-- bytes of each string, the package variables with their sites and their first values, and the number of `main`
 pub record Program : Type 0 where
   pub funcs : List Func
   pub types : List TypeTree
   pub sites : List TypeTree
+  pub taken : List Bool
   pub strings : List (List ℕ)
   pub globals : List (ℕ × Value)
   pub main : ℕ
@@ -206,6 +207,11 @@ global_site p g = (get_or p.globals g (0, int (pos 0))).0
 
 abbrev pub global_type : Program → ℕ → TypeTree
 global_type p g = site_type p (global_site p g)
+
+-- whether a pointer or a slice may lead to a site's variables: one is made from a place that begins at them, or by the expression that
+-- they are variables of
+abbrev pub is_taken : Program → ℕ → Bool
+is_taken p site = get_or p.taken site false
 
 -- the words of a site's variables
 abbrev pub site_width : Program → ℕ → ℕ

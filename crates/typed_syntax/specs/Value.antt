@@ -1,5 +1,5 @@
 -- Values as trees, when a value is of a type, and the zero value of a type [Go specification, The zero value].
-use Rattle.std.specs.Prelude.{ℕ, zero, suc, ◌+◌, ◌<◌, ◌^◌, ℤ, pos, Bool, true, false, not, ◌&&◌, nat_eq, List, [], ◌∷◌, FitsSigned, ⊤}
+use Rattle.std.specs.Prelude.{ℕ, zero, suc, ◌+◌, ◌<◌, ◌≤◌, ◌^◌, ℤ, pos, Bool, true, false, not, ◌&&◌, nat_eq, List, [], ◌∷◌, FitsSigned, ⊤}
 use Rattle.std.specs.Int.{w64}
 use Rattle.std.specs.Ordering.{int_eq}
 use Rattle.typed_syntax.specs.Types.{TypeTree, PartTypes, ints, bools, struct_of, array_of, pointer_to, slice_of, no_types, more_types, repeated}
@@ -39,7 +39,8 @@ abbrev mutual
   words_in (more_values v vs) = words v + words_in vs
 
 abbrev mutual
-  -- a value of a type; how large a whole number may be, and what is where a pointer or a slice leads, is said elsewhere
+  -- a value of a type; how large a whole number may be, and what is where a pointer or a slice leads, is said elsewhere. A slice has no
+  -- more elements than it has room for [Go specification, Length and capacity]
   pub IsOf : TypeTree → Value → Type 0
   IsOf ints (int z) = Unit {0}
   IsOf bools (bool b) = Unit {0}
@@ -48,7 +49,7 @@ abbrev mutual
   IsOf (pointer_to n) nil_pointer = Unit {0}
   IsOf (pointer_to n) (pointer x path) = Unit {0}
   IsOf (slice_of n) nil_slice = Unit {0}
-  IsOf (slice_of n) (slice_in x path first count room) = Unit {0}
+  IsOf (slice_of n) (slice_in x path first count room) = count ≤ room
   IsOf t v = ⊥
 
   -- values side by side
