@@ -5,3 +5,7 @@ pub mod Runs
 pub mod Cuts
 pub mod Named
 pub mod Pointing
+pub mod Typed
+pub mod Stored
+pub mod Preserving
+pub mod Formed

@@ -2,6 +2,7 @@
 
 ghost use Rattle.meaning_laws.specs.Laws.{FuelIsEnough, LimitsCut, LongerCappedExtend, LongerRunsExtend, LongerSourcesExtend, SourceShowsJournal, VariablesStay};
 ghost use Rattle.meaning_laws.specs.Pointers.{PointersNameVariables};
+ghost use Rattle.meaning_laws.specs.Typing.{AccessesAreThere, FormIsWellTyped, StatesAreTyped};
 
 /// A longer budget only extends the journal, and an ending other than by turns is kept.
 pub fn longer_runs_extend()
@@ -43,4 +44,20 @@ pub fn variables_stay()
 /// without any.
 pub fn pointers_name_variables()
     ensures { PointersNameVariables }
+{}
+
+/// Type safety: in each state of each run of a well typed program each variable's value is of its type, each value that is held is of
+/// the type of what gave it, and all their pointers and slices lead to parts that are there.
+pub fn states_are_typed()
+    ensures { StatesAreTyped }
+{}
+
+/// Each read and each write of such a run is of words of a variable that was born before.
+pub fn accesses_are_there()
+    ensures { AccessesAreThere }
+{}
+
+/// Programs in form are well typed.
+pub fn form_is_well_typed()
+    ensures { FormIsWellTyped }
 {}
