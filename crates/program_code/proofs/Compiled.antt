@@ -28,7 +28,7 @@ pub record Placed (p : Program) (l : Placement) (code : Tables) (f : ℕ) (func 
   pub start : ℕ
   pub entry : slice_get code.funcs f ≡ Some (entry_of p l func start)
   pub stands : HasAt code.instrs start (func_code p l func start)
-  pub owned : (i : ℕ) → i < func_size p func → slice_get code.owners (start + i) ≡ Some f
+  pub owned : (i : ℕ) → i < func_size p l func → slice_get code.owners (start + i) ≡ Some f
 
 -- all functions do
 pub record Compiled (p : Program) (l : Placement) (code : Tables) : Type 0 where

@@ -26,16 +26,11 @@ module _ (fs : Program) where
   steps_room temps h behind (inner i steps) l = steps_room temps h behind steps l
   steps_room temps h behind (at_index at e n steps) l = steps_room temps (h + 1) behind steps (omega arith)
 
-  steps_behind : (behind : ℕ) (steps : Steps) → behind ≤ steps_need fs steps behind
-  steps_behind behind here = omega arith
-  steps_behind behind (inner i steps) = steps_behind behind steps
-  steps_behind behind (at_index at e n steps) = let l = steps_behind behind steps in omega arith
-
   pub place_room : (temps h behind : ℕ) (q : Pl) → h + place_need fs q behind ≤ temps → place_above q h + behind ≤ temps
   place_room temps h behind (local site steps) l = steps_room temps h behind steps l
   place_room temps h behind (global g steps) l = steps_room temps h behind steps l
-  place_room temps h behind (indirect at e n steps) l = let k = steps_behind behind steps in omega arith
-  place_room temps h behind (slice_element at e i n steps) l = let k = steps_behind behind steps in omega arith
+  place_room temps h behind (indirect at e n steps) l = steps_room temps (h + 1) behind steps (omega arith)
+  place_room temps h behind (slice_element at e i n steps) l = steps_room temps (h + 4) behind steps (omega arith)
 
   pub lefts_room : (temps h behind : ℕ) (ls : List Left) → h + lefts_need fs ls behind ≤ temps → lefts_above ls h + behind ≤ temps
   lefts_room temps h behind [] l = l
@@ -51,7 +46,8 @@ module _ (fs : Program) where
   pub place_from : (h : ℕ) (q : Pl) → h ≤ place_above q h
   place_from h (local site steps) = steps_from h steps
   place_from h (global g steps) = steps_from h steps
-  place_from h q = omega arith
+  place_from h (indirect at e n steps) = let l = steps_from (h + 1) steps in omega arith
+  place_from h (slice_element at e i n steps) = let l = steps_from (h + 4) steps in omega arith
 
   -- the calls of what comes with operands
   steps_others : (others : ℕ) (steps : Steps) → others ≤ steps_reach fs steps others

@@ -1,13 +1,11 @@
 -- Where sites stand among each other, and which placement has rules.
-use Rattle.std.proofs.Common.{◌≡◌, ◌≢◌, inl, inr, ℕ, zero, suc, ◌+◌, ◌-◌, ◌<◌, ◌≤◌, Bool, true, false, List, [], ◌∷◌, Some, get_or, slice_get, refl, ap, ◌∙◌, arith}
-use Rattle.std.specs.Prelude.{◌==◌, ◌||◌, if◌then◌else◌}
+use Rattle.std.proofs.Common.{◌≡◌, ℕ, zero, suc, ◌+◌, ◌-◌, ◌<◌, ◌≤◌, Bool, true, false, List, [], ◌∷◌, Some, get_or, slice_get, refl, ap, ◌∙◌, arith}
+use Rattle.std.specs.Prelude.{◌==◌, ◌||◌, nat_lt, if◌then◌else◌}
 use Rattle.std.proofs.lemmas.Bool.{eq-eqb}
-use Rattle.std.proofs.lemmas.Bool.Decides.{eqb_tells}
 use Rattle.typed_syntax.specs.Types.{TypeTree, ints, width}
 use Rattle.typed_syntax.specs.Value.{Value}
-use Rattle.typed_syntax.specs.Syntax.{Func, Program, site_width}
-use Rattle.typed_syntax.specs.Form.{IsInForm}
-use Rattle.frames.specs.Placement.{Placement, IsPlaced, among, package_alone}
+use Rattle.typed_syntax.specs.Syntax.{Func, Program, is_taken, site_width}
+use Rattle.frames.specs.Placement.{Placement, IsPlaced, among, most_words, coarse}
 use Rattle.frames.specs.Frames.{stack_words, words_between}
 
 -- a site whose variables live in the frame has their words there
@@ -36,10 +34,7 @@ site_before p pl first u v stays from lt = between_sites pl p.sites first u (v -
 pub site_within : (p : Program) (pl : Placement) (f : Func) (v : ℕ) → pl.on_heap v ≡ false → f.first ≤ v → v < f.first + f.count → words_between pl p.sites f.first (v - f.first) + site_width p v ≤ words_between pl p.sites f.first f.count
 site_within p pl f v stays from to = between_sites pl p.sites f.first v f.count from (omega arith) stays
 
--- ---- the placement of the package's variables alone
-
-different : (a b : ℕ) → a ≢ b → (a == b) ≡ false
-different a b apart = elim (eqb_tells a b) [ inl p ↦ absurd (apart p.1) | inr p ↦ p.0 ]
+-- ---- the placement that needs no analysis
 
 or_true : (b : Bool) → (b || true) ≡ true
 or_true true = refl
@@ -48,19 +43,14 @@ or_true false = refl
 same_some : (g h : ℕ × Value) → Some g ≡ Some h → g ≡ h
 same_some g h e = cc
 
--- no package variable has the site, or one has
-none_among : (site : ℕ) (gs : List (ℕ × Value)) → ((i : ℕ) (g : ℕ × Value) → slice_get gs i ≡ Some g → g.0 ≢ site) → among site gs ≡ false
-none_among site [] apart = refl
-none_among site (g ∷ gs) apart = ap (λ b. b || among site gs) (different g.0 site (apart 0 g refl)) ∙ none_among site gs (λ i h e. apart (suc i) h e)
-
 one_among : (gs : List (ℕ × Value)) (i : ℕ) (g : ℕ × Value) → slice_get gs i ≡ Some g → among g.0 gs ≡ true
 one_among [] i g e = absurd cc
 one_among (h ∷ gs) zero g e = ap (λ b. b || among g.0 gs) (eq-eqb h.0 g.0 (ap (λ (q : ℕ × Value). q.0) (same_some h g e)))
 one_among (h ∷ gs) (suc i) g e = ap (λ b. (h.0 == g.0) || b) (one_among gs i g e) ∙ or_true (h.0 == g.0)
 
-pub package_placed : (p : Program) → IsInForm p → IsPlaced p (package_alone p)
-package_placed p form = record {
-  stacked = λ f func is site from to. none_among site p.globals
-      (λ i g e same. elim ((form.globals i g e).apart f func is) [ inl l ↦ absurd (omega (arith, l, same, from)) | inr l ↦ absurd (omega (arith, l, same, to)) ]);
-  globals = λ i g e. one_among p.globals i g e;
+-- it has rules
+pub coarse_placed : (p : Program) → IsPlaced p (coarse p)
+coarse_placed p = record {
+  taken = λ site is. ap (λ b. among site p.globals || (b || nat_lt most_words (site_width p site))) is ∙ or_true (among site p.globals);
+  globals = λ i g e. ap (λ b. b || (is_taken p g.0 || nat_lt most_words (site_width p g.0))) (one_among p.globals i g e);
 }

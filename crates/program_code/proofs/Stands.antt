@@ -39,23 +39,23 @@ module _ (fs : Program) (pl : Placement) where
   abbrev pub start_of : List Func → ℕ → ℕ
   start_of [] k = 0
   start_of (g ∷ gs) zero = 0
-  start_of (g ∷ gs) (suc k) = func_size fs g + start_of gs k
+  start_of (g ∷ gs) (suc k) = func_size fs pl g + start_of gs k
 
-  pub some_size : (f : Func) → 0 < func_size fs f
+  pub some_size : (f : Func) → 0 < func_size fs pl f
   some_size f = omega arith
 
-  pub length_owners : (gs : List Func) (number pc : ℕ) → length (funcs_owners fs gs number) ≡ length (funcs_code fs pl gs pc)
+  pub length_owners : (gs : List Func) (number pc : ℕ) → length (funcs_owners fs pl gs number) ≡ length (funcs_code fs pl gs pc)
   length_owners [] number pc = refl
   length_owners (g ∷ gs) number pc =
-      let own : List ℕ = replicate (func_size fs g) number in
-      let l : length own ≡ func_size fs g = length-replicate (func_size fs g) number in
-      omega (arith, l, length-append own (funcs_owners fs gs (number + 1)), length-append (func_code fs pl g pc) (funcs_code fs pl gs (pc + func_size fs g)), length_func fs pl g pc, length_owners gs (number + 1) (pc + func_size fs g))
+      let own : List ℕ = replicate (func_size fs pl g) number in
+      let l : length own ≡ func_size fs pl g = length-replicate (func_size fs pl g) number in
+      omega (arith, l, length-append own (funcs_owners fs pl gs (number + 1)), length-append (func_code fs pl g pc) (funcs_code fs pl gs (pc + func_size fs pl g)), length_func fs pl g pc, length_owners gs (number + 1) (pc + func_size fs pl g))
 
   -- function k of some, which stand from a place on and are counted from a number on
   pub record Stands (gs : List Func) (pc number k : ℕ) (func : Func) : Type 0 where
     pub entry : slice_get (funcs_entries fs pl gs pc) k ≡ Some (entry_of fs pl func (pc + start_of gs k))
-    pub code : (p : ℕ) → p < func_size fs func → slice_get (funcs_code fs pl gs pc) (start_of gs k + p) ≡ slice_get (func_code fs pl func (pc + start_of gs k)) p
-    pub owned : (p : ℕ) → p < func_size fs func → slice_get (funcs_owners fs gs number) (start_of gs k + p) ≡ Some (number + k)
+    pub code : (p : ℕ) → p < func_size fs pl func → slice_get (funcs_code fs pl gs pc) (start_of gs k + p) ≡ slice_get (func_code fs pl func (pc + start_of gs k)) p
+    pub owned : (p : ℕ) → p < func_size fs pl func → slice_get (funcs_owners fs pl gs number) (start_of gs k + p) ≡ Some (number + k)
 
   pub stands : (gs : List Func) (pc number k : ℕ) (func : Func) → slice_get gs k ≡ Some func → Stands gs pc number k func
   stands [] pc number k func e = absurd (none_some e)
@@ -63,19 +63,19 @@ module _ (fs : Program) (pl : Placement) where
     entry = let z : pc ≡ pc + 0 = omega arith in ap (λ p. Some (entry_of fs pl g p)) z;
     code = λ p l.
         let z : pc ≡ pc + 0 = omega arith in let y : 0 + p ≡ p = omega arith in
-        ap (λ q. slice_get (func_code fs pl g pc ++ funcs_code fs pl gs (pc + func_size fs g)) q) y
-        ∙ front_get (func_code fs pl g pc) (funcs_code fs pl gs (pc + func_size fs g)) p (omega (arith, l, length_func fs pl g pc))
+        ap (λ q. slice_get (func_code fs pl g pc ++ funcs_code fs pl gs (pc + func_size fs pl g)) q) y
+        ∙ front_get (func_code fs pl g pc) (funcs_code fs pl gs (pc + func_size fs pl g)) p (omega (arith, l, length_func fs pl g pc))
         ∙ ap (λ q. slice_get (func_code fs pl g q) p) z;
     owned = λ p l.
         let z : number ≡ number + 0 = omega arith in let y : 0 + p ≡ p = omega arith in
-        let own : List ℕ = replicate (func_size fs g) number in
-        ap (λ q. slice_get (own ++ funcs_owners fs gs (number + 1)) q) y
-        ∙ front_get own (funcs_owners fs gs (number + 1)) p (omega (arith, l, length-replicate (func_size fs g) number))
-        ∙ same_get (func_size fs g) p number l
+        let own : List ℕ = replicate (func_size fs pl g) number in
+        ap (λ q. slice_get (own ++ funcs_owners fs pl gs (number + 1)) q) y
+        ∙ front_get own (funcs_owners fs pl gs (number + 1)) p (omega (arith, l, length-replicate (func_size fs pl g) number))
+        ∙ same_get (func_size fs pl g) p number l
         ∙ ap (λ q. Some q) z;
   })
   stands (g ∷ gs) pc number (suc k) func e =
-      let n = func_size fs g in
+      let n = func_size fs pl g in
       let r = stands gs (pc + n) (number + 1) k func e in
       let z : pc + n + start_of gs k ≡ pc + (n + start_of gs k) = omega arith in
       record {
@@ -90,8 +90,8 @@ module _ (fs : Program) (pl : Placement) where
             let own : List ℕ = replicate n number in
             let y : n + start_of gs k + p ≡ n + (start_of gs k + p) = omega arith in
             let x : number + 1 + k ≡ number + suc k = omega arith in
-            ap (λ q. slice_get (own ++ funcs_owners fs gs (number + 1)) q) y
-            ∙ back_get own (funcs_owners fs gs (number + 1)) n (start_of gs k + p) (length-replicate n number)
+            ap (λ q. slice_get (own ++ funcs_owners fs pl gs (number + 1)) q) y
+            ∙ back_get own (funcs_owners fs pl gs (number + 1)) n (start_of gs k + p) (length-replicate n number)
             ∙ r.owned p l
             ∙ ap (λ q. Some q) x;
       }
@@ -107,13 +107,13 @@ module _ (fs : Program) (pl : Placement) where
     pub func : Func
     pub is : slice_get gs k ≡ Some func
     pub p : ℕ
-    pub within : p < func_size fs func
+    pub within : p < func_size fs pl func
     pub at : place ≡ start_of gs k + p
 
   pub located : (gs : List Func) (pc place : ℕ) → place < length (funcs_code fs pl gs pc) → Located gs place
   located [] pc place l = absurd (omega arith)
   located (g ∷ gs) pc place l =
-      let n = func_size fs g in
+      let n = func_size fs pl g in
       elim (split n place) [
         | inl m ↦ record { k = 0; func = g; is = refl; p = place; within = m; at = omega arith }
         | inr (q, e) ↦
@@ -124,7 +124,7 @@ module _ (fs : Program) (pl : Placement) where
   pub entered_from : (gs : List Func) (pc k : ℕ) (fn : Entry) → slice_get (funcs_entries fs pl gs pc) k ≡ Some fn → (func : Func) × (slice_get gs k ≡ Some func)
   entered_from [] pc k fn e = absurd (none_some e)
   entered_from (g ∷ gs) pc zero fn e = (g, refl)
-  entered_from (g ∷ gs) pc (suc k) fn e = entered_from gs (pc + func_size fs g) k fn e
+  entered_from (g ∷ gs) pc (suc k) fn e = entered_from gs (pc + func_size fs pl g) k fn e
 
   pub exists : (gs : List Func) (k : ℕ) → k < length gs → (func : Func) × (slice_get gs k ≡ Some func)
   exists [] k l = absurd (omega arith)
