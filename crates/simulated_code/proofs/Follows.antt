@@ -23,7 +23,7 @@ use Rattle.machine.specs.declared.run_state.Ending.TheVariants.{StackLimit as Li
 use Rattle.program_code.specs.Code.{entry_of}
 use Rattle.program_code.proofs.Compiled.{Compiled}
 use Rattle.state_relation.specs.Views.{View, after_call, nothing_yet, out_from}
-use Rattle.state_relation.specs.Relation.{Memory, to_none, Good, fresh, sites_of}
+use Rattle.state_relation.specs.Relation.{Memory, to_heap, Good, fresh, sites_of}
 use Rattle.state_relation.specs.Alike.{same_event, same_last, AreNumbers}
 use Rattle.state_relation.proofs.Leaves.{all_leaves_length}
 use Rattle.state_relation.proofs.Views.{same_sight}
@@ -83,7 +83,7 @@ module _ (p : Program) (pl : Placement) (code : Tables) (compiled : Compiled p p
   globals_fit = all_fit p.globals (λ i g e. let fits = form.globals i g e in (fits.value.0, fits.value.1, fits.alone))
 
   abbrev built : Built
-  built = record { program = p; placement = pl; leading = to_none; bare = refl; code = code; max = max; heap_max = heap_max; roomy = roomy; heap_roomy = small; items = items; fits = form.fits; solid = form.solid; placed = are_placed; strings = texts; numbers = numbers_are; compiled = compiled }
+  built = record { program = p; placement = pl; leading = to_heap; apart = refl; code = code; max = max; heap_max = heap_max; roomy = roomy; heap_roomy = small; items = items; fits = form.fits; solid = form.solid; placed = are_placed; strings = texts; numbers = numbers_are; compiled = compiled }
 
   abbrev Paced : (b : ℕ) → Lines Sight Last → (ℕ → Outcome Event Stopped) → Type 0
   Paced b t run = Follows Sight Event Last Stopped same_event (same_last p.strings) 0 0 b t run
@@ -93,7 +93,7 @@ module _ (p : Program) (pl : Placement) (code : Tables) (compiled : Compiled p p
     abbrev program_store : List ℕ → Memory
     program_store words = first_store max heap words
 
-    main_follows : (func : Func) → slice_get p.funcs p.main ≡ Some func → func.params ≡ [] → func.results ≡ [] → Good p pl max to_none v w [] (program_store []) → length p.globals ≤ length w.store
+    main_follows : (func : Func) → slice_get p.funcs p.main ≡ Some func → func.params ≡ [] → func.results ≡ [] → Good p pl max to_heap v w [] (program_store []) → length p.globals ≤ length w.store
         → Paced b (out_from p pl (limits p pl max heap_max) v (first_range max) (Meaning.call_at around p.funcs (suc n) p.main [] Meaning.at_top (λ x. 0) (λ rs. Meaning.stop (Exit 0)) w))
         (entered code items max (record { words = heap; max = heap_max }) (slice_get code.funcs p.main))
     main_follows func named no_params no_results g began =
@@ -115,10 +115,10 @@ module _ (p : Program) (pl : Placement) (code : Tables) (compiled : Compiled p p
         (λ fits. ((body_follows built around refl refl refl refl n callees (calls_follow built around refl refl refl refl n) p.main func named place [] [] Meaning.at_top (λ x. 0) stop (after_call v p.main) w 0 b le tt (λ at x env1 w1. refl) typed (omega (arith, no_words, no_arguments)) (λ rs w1. refl)).at
         (λ k. program_store (replicate (frame_of p pl func) 0)) (λ k. (stands func named fits g began, λ j lt. absurd (omega (arith, all_leaves_length func.param_types, no_arguments))))).each 0))))
       where
-        stands : (func : Func) → slice_get p.funcs p.main ≡ Some func → frame_of p pl func ≤ max → Good p pl max to_none v w [] (program_store []) → length p.globals ≤ length w.store → Good p pl max to_none (after_call v p.main) w (fresh p.main func ∷ []) (program_store (replicate (frame_of p pl func) 0))
+        stands : (func : Func) → slice_get p.funcs p.main ≡ Some func → frame_of p pl func ≤ max → Good p pl max to_heap v w [] (program_store []) → length p.globals ≤ length w.store → Good p pl max to_heap (after_call v p.main) w (fresh p.main func ∷ []) (program_store (replicate (frame_of p pl func) 0))
         stands func named fits g began =
-            subst (λ ws. Good p pl max to_none (after_call v p.main) w (fresh p.main func ∷ []) (program_store ws)) (all_zero (frame_of p pl func) (omega arith))
-            (call_enters p pl max to_none v w p.main func [] (program_store []) 0 0 named began (omega arith) refl refl g)
+            subst (λ ws. Good p pl max to_heap (after_call v p.main) w (fresh p.main func ∷ []) (program_store ws)) (all_zero (frame_of p pl func) (omega arith))
+            (call_enters p pl max to_heap v w p.main func [] (program_store []) 0 0 named began (omega arith) refl refl g)
 
   -- the births of the package variables, and `main`
   whole_follows : (n b : ℕ) → b ≤ suc n → Paced b (out (limits p pl max heap_max) [] 0 (Meaning.trace items p n)) (target code items (first_words p.globals) p.main max heap_max)
@@ -126,7 +126,7 @@ module _ (p : Program) (pl : Placement) (code : Tables) (compiled : Compiled p p
       let main = Meaning.call_at around p.funcs (suc n) p.main [] Meaning.at_top (λ x. 0) (λ rs. Meaning.stop (Exit 0)) in
       subst (λ t. Paced b t (target code items (first_words p.globals) p.main max heap_max)) (same_sight p pl (limits p pl max heap_max) nothing_yet (first_range max) (Meaning.trace items p n))
       (globals_follow p pl (limits p pl max heap_max) small around refl main (λ ws. entered code items max (record { words = ws; max = heap_max }) (slice_get code.funcs p.main)) b p.globals 0 nothing_yet Meaning.beginning [] (λ j. ap (slice_get p.globals) (let e : j ≡ 0 + j = omega arith in e)) (omega arith) (all_on p.globals are_placed.globals) globals_fit
-      (record { good = good_none p pl max to_none (first_store max [] []) refl refl refl (omega arith) (omega arith) refl; count = refl; before = sym (none_before p.sites (sites_of p.globals)); room = omega arith })
+      (record { good = good_none p pl max to_heap (first_store max [] []) refl refl refl (omega arith) (omega arith) refl; count = refl; before = sym (none_before p.sites (sites_of p.globals)); room = omega arith })
       (λ v1 w1 heap1 g. main_follows n b le v1 w1 heap1 form.main.0 form.main.1 form.main.2 form.main.3 g.good (let c = g.count in omega arith)))
 
 -- the code of a program in form does what the program means

@@ -69,7 +69,7 @@ module _ (m : Built) (around : Setting) (strings : around.strings ≡ m.program.
     has = standing m.code f place.start (func_code m.program m.placement func place.start) place.stands (λ i l. place.owned i (omega (arith, length_func m.program m.placement func place.start)))
 
     abbrev start : ℕ
-    start = place.start + entry_size m.program func
+    start = place.start + entry_size m.program m.placement func
 
     abbrev body : List Instr
     body = sts_code m.program (argument_words func) func.named (slots_of m.program m.placement func) func.body 0 0 0 start
@@ -83,11 +83,11 @@ module _ (m : Built) (around : Setting) (strings : around.strings ≡ m.program.
     has_params : Standing m.code f place.start (params_code (slots_of m.program m.placement func) (each_width func.param_types) func.params 0)
     has_params = front m.code f place.start (params_code (slots_of m.program m.placement func) (each_width func.param_types) func.params 0) (zeros_code (slots_of m.program m.placement func) func.named) has_entry
 
-    has_zeros : Standing m.code f (place.start + params_size func.params) (zeros_code (slots_of m.program m.placement func) func.named)
-    has_zeros = back m.code f place.start (params_size func.params) (params_code (slots_of m.program m.placement func) (each_width func.param_types) func.params 0) (zeros_code (slots_of m.program m.placement func) func.named) (length_params (slots_of m.program m.placement func) (each_width func.param_types) func.params 0) has_entry
+    has_zeros : Standing m.code f (place.start + params_size m.placement func.params) (zeros_code (slots_of m.program m.placement func) func.named)
+    has_zeros = back m.code f place.start (params_size m.placement func.params) (params_code (slots_of m.program m.placement func) (each_width func.param_types) func.params 0) (zeros_code (slots_of m.program m.placement func) func.named) (length_params (slots_of m.program m.placement func) (each_width func.param_types) func.params 0) has_entry
 
     has_rest : Standing m.code f start (body ++ ending)
-    has_rest = back m.code f place.start (entry_size m.program func) (entry_code m.program m.placement func) (body ++ ending) (length_entry m.program m.placement func) has
+    has_rest = back m.code f place.start (entry_size m.program m.placement func) (entry_code m.program m.placement func) (body ++ ending) (length_entry m.program m.placement func) has
 
     has_end : Standing m.code f (start + sts_size m.program (argument_words func) func.named func.body) ending
     has_end = back m.code f start (sts_size m.program (argument_words func) func.named func.body) body ending (length_sts m.program (argument_words func) func.named (slots_of m.program m.placement func) func.body 0 0 0 start) has_rest
@@ -118,11 +118,11 @@ module _ (m : Built) (around : Setting) (strings : around.strings ≡ m.program.
     body_follows calls vs ws env0 k v w lo b le from stops typed room home =
         let entry = length w.store in let c = fresh f func in let count = fit.count in
         let returns : Returns m lo b c calls (Meaning.leave func.named entry k) = home_returns m c calls k entry lo b from room home fit.names in
-        let here : place.start + entry_size m.program func ≡ place.start + params_size func.params + length func.named = omega arith in
+        let here : place.start + entry_size m.program m.placement func ≡ place.start + params_size m.placement func.params + length func.named = omega arith in
         let leads : Leads m c calls [] false (breaks_all func.body) (scope_in func) (scope_in func) 0 0 lo b (Meaning.ways_in func.named entry ws env0 k) =
         record { panics = λ at x env1 w1. stops at x env0 w1; around = λ u i. i; broken = λ t e. absurd (let f : false ≡ true = t in cc); continued = λ t. absurd (let f : false ≡ true = t in cc); returned = returns } in
-        params_follow m around sites_are c calls func.params func.param_types vs (λ x. 0) [] entry _ v w func.first 0 place.start lo b typed has_params fit.params (omega arith) (omega arith) (omega arith) (λ env1 w1 v1.
-        zeros_follow m around sites_are func.named c env1 (params_scope [] func.params) [] calls entry _ v1 w1 (func.first + named_params func.params) (place.start + params_size func.params) lo b has_zeros next_named (omega arith) (λ env2 w2 v2.
+        params_follow m around sites_are c calls func.params func.param_types vs (λ x. 0) [] entry _ v w func.first 0 place.start lo b typed has_params fit.params (omega arith) (omega arith) (omega arith) (omega arith) (λ env1 w1 v1.
+        zeros_follow m around sites_are func.named c env1 (params_scope [] func.params) [] calls entry _ v1 w1 (func.first + named_params func.params) (place.start + params_size m.placement func.params) lo b has_zeros next_named (omega arith) (λ env2 w2 v2.
         place_is m here (all_follow m around strings types inputs sites_are callees n cf c calls func.body (Meaning.ways_in func.named entry ws env0 k) env2 (Meaning.leave func.named entry k []) v2 w2 [] 0 false (scope_in func) (scope_in func) (body_first func) 0 0 start lo b le refl
         (front m.code f start body ending has_rest) fit.body (omega arith) (omega arith) scoped leads
         (λ goes env3 w3 v3. returns [] [] 0 env3 (scope_in func) [] v3 w3 0 (start + sts_size m.program (argument_words func) func.named func.body) refl

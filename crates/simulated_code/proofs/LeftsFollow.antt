@@ -1,41 +1,42 @@
 -- The machine follows the writing of left sides, whose operands are held, and new variables.
-use Rattle.std.proofs.Common.{◌≡◌, ◌⊎◌, inl, inr, ℕ, suc, ◌+◌, ◌-◌, ◌<◌, ◌≤◌, List, [], ◌∷◌, ◌++◌, length, refl, sym, ap, ◌∙◌, subst, arith, append_assoc, append-nil, length-append}
-use Rattle.std.specs.Prelude.{slice_get, replicate}
+use Rattle.std.proofs.Common.{◌≡◌, ◌⊎◌, inl, inr, ℕ, suc, ◌+◌, ◌<◌, ◌≤◌, List, [], ◌∷◌, ◌++◌, length, refl, sym, ap, ◌∙◌, subst, arith, append_assoc, append-nil, length-append}
+use Rattle.std.specs.Prelude.{slice_get}
+use Rattle.typed_syntax.specs.Positions.{Position}
 use Rattle.typed_syntax.specs.Value.{Value, IsOf}
-use Rattle.typed_syntax.specs.Syntax.{Pl, Steps, here as itself, inner, at_index, Left, Program, blank, new, to, local, global, site_type, each_width}
+use Rattle.typed_syntax.specs.Syntax.{Pl, Steps, here as itself, inner, at_index, Left, Program, Ex, blank, new, to, local, global, indirect, slice_element, site_type, each_width}
 use Rattle.typed_syntax.specs.Form.{AreOf, InScope, new_sites, AllInScope, PlFits, LeftsFit, SitesNext, NamedFit, scope_behind, scope_with}
 use Rattle.frames.specs.Frames.{far, lefts_far, widest, temps_of}
 use Rattle.meaning.specs.Trace.{World}
 use Rattle.meaning.specs.Store.{value_of, written, born}
 use Rattle.meaning.specs.Meaning
 use Rattle.meaning.specs.Meaning.{Env, Go, Ways, Setting, Landing, nowhere, birth, on, with_home}
-use Rattle.isa.specs.declared.instr.MoveEvent.TheVariants.{Read}
 use Rattle.machine.specs.Machine.{words_at}
-use Rattle.program_code.specs.Code.{temp, site_slot, slots_of, steps_above, place_above, address_code, address_size, land_code, lefts_code, lefts_size, zeros_code, renew_code, renew_size, born_code}
+use Rattle.program_code.specs.Code.{temp, slots_of, steps_above, place_above, near_offset, near_words, address_code, address_size, land_code, lefts_code, lefts_size, zeros_code, renew_code, renew_size}
 use Rattle.program_code.proofs.Sizes.{length_address, length_write}
-use Rattle.typed_syntax.specs.Types.{TypeTree, ints, width}
+use Rattle.typed_syntax.specs.Types.{TypeTree, ints, pointer_to, width, slice_of}
 use Rattle.typed_syntax.specs.Words.{contents}
 use Rattle.state_relation.specs.Leaves.{leaves}
-use Rattle.state_relation.specs.Views.{View, after_stack}
-use Rattle.state_relation.specs.Relation.{Memory, puts, Kept, Frame, hold, grown, during, depth, Stand}
-use Rattle.state_relation.proofs.Words.{zero_stands}
+use Rattle.state_relation.specs.Views.{View}
+use Rattle.state_relation.specs.Relation.{Memory, Kept, Frame, hold, during, Stand}
 use Rattle.state_relation.proofs.Changes.{home_other, narrowed}
 use Rattle.state_relation.proofs.Built.{Built}
 use Rattle.state_relation.proofs.Rules.{At, Stands, knowing, later, place_is, given, turned, seen, read_of, written_to}
-use Rattle.state_relation.proofs.Values.{kept, all_kept, all_kept_first, all_kept_joined, one_more, more_kept, value_put, fewer, held_stand}
+use Rattle.state_relation.proofs.Values.{kept, all_kept, all_kept_first, all_kept_joined, one_more, more_kept, fewer, held_none, held_stand}
 use Rattle.simulated_code.proofs.Standing.{Standing, front, back, Panics}
-use Rattle.simulated_code.proofs.Reached.{variable_of, steps_of, Operands, aimed, index_types, operands_are, Located, located, place_held, settled_follow, landed}
-use Rattle.simulated_code.proofs.Temps.{words_moved, held_there, last_stand}
-use Rattle.simulated_code.proofs.Births.{births_at, births_filled, site_stand, site_typed, cell_kind, zero_value, zero_typed}
+use Rattle.simulated_code.proofs.Places.{variable_of, root_of, Operands, PlaceOperands, aimed, index_types, operand_types, place_operands_are, pointer_held, Located, located, place_held}
+use Rattle.simulated_code.proofs.Settled.{settled_follow}
+use Rattle.simulated_code.proofs.Reached.{Guided, fetched, landed}
+use Rattle.simulated_code.proofs.Temps.{held_there, last_stand}
+use Rattle.simulated_code.proofs.Births.{births_zero, births_filled, cell_kind, zero_value}
 
--- values for the indices of each left side that is a place
+-- values for the operands of each left side that is a place
 abbrev pub Gives : List Left → List (List Value) → Type 0
 Gives [] [] = Unit {0}
 Gives [] (us ∷ uss) = ⊥
 Gives (blank ∷ ls) uss = Gives ls uss
 Gives (new site ∷ ls) uss = Gives ls uss
 Gives (to q ∷ ls) [] = ⊥
-Gives (to q ∷ ls) (us ∷ uss) = Operands (steps_of q) us × Gives ls uss
+Gives (to q ∷ ls) (us ∷ uss) = PlaceOperands q us × Gives ls uss
 
 -- one after the other
 abbrev pub together : List (List Value) → List Value
@@ -47,7 +48,7 @@ abbrev pub left_types : List Left → List TypeTree
 left_types [] = []
 left_types (blank ∷ ls) = left_types ls
 left_types (new site ∷ ls) = left_types ls
-left_types (to q ∷ ls) = index_types (steps_of q) ++ left_types ls
+left_types (to q ∷ ls) = operand_types q ++ left_types ls
 
 -- where left sides lead
 abbrev pub landings : Env → List Left → List (List Value) → List Landing
@@ -80,14 +81,22 @@ steps_operands (inner i steps) us h held hh ops = steps_operands steps us h held
 steps_operands (at_index at e n steps) [] h held hh ops = absurd ops
 steps_operands (at_index at e n steps) (u ∷ us) h held hh ops = ap (λ l. length l) (more_kept held ints (index_types steps) u us ops.0) ∙ steps_operands steps us (h + 1) (held ++ kept ints u) (one_more held ints u h 1 hh refl) ops.1
 
-operands_above : (q : Pl) (us : List Value) (h : ℕ) (held : List Kept) → length held ≡ h → Operands (steps_of q) us → length (held ++ all_kept (index_types (steps_of q)) us) ≡ place_above q h
+operands_above : (q : Pl) (us : List Value) (h : ℕ) (held : List Kept) → length held ≡ h → PlaceOperands q us → length (held ++ all_kept (operand_types q) us) ≡ place_above q h
 operands_above (local site steps) us h held hh ops = steps_operands steps us h held hh ops
 operands_above (global g steps) us h held hh ops = steps_operands steps us h held hh ops
-operands_above q us h held hh ops = steps_operands itself us h held hh ops
+operands_above (indirect at e n steps) [] h held hh ops = absurd ops
+operands_above (indirect at e n steps) (u ∷ us) h held hh ops =
+    let t = pointer_to n in ap (λ l. length l) (more_kept held t (index_types steps) u us ops.0) ∙ steps_operands steps us (h + 1) (held ++ kept t u) (one_more held t u h 1 hh refl) ops.1
+operands_above (slice_element at e i n steps) [] h held hh ops = absurd ops
+operands_above (slice_element at e i n steps) (u ∷ []) h held hh ops = absurd ops.1
+operands_above (slice_element at e i n steps) (u ∷ j ∷ us) h held hh ops =
+    let t = slice_of n in let first = held ++ kept t u in let wide = one_more held t u h 3 hh refl in
+    ap (λ l. length l) (more_kept held t (ints ∷ index_types steps) u (j ∷ us) ops.0 ∙ more_kept first ints (index_types steps) j us ops.1.0)
+    ∙ (let q : h + 3 + 1 ≡ h + 4 = omega arith in steps_operands steps us (h + 4) (first ++ kept ints j) (one_more first ints j (h + 3) 1 wide refl ∙ q) ops.1.1)
 
 -- those of a place come before those of the left sides after it
-pub first_operands : (q : Pl) (us : List Value) (ls : List Left) (uss : List (List Value)) → Operands (steps_of q) us → all_kept (left_types (to q ∷ ls)) (together (us ∷ uss)) ≡ all_kept (index_types (steps_of q)) us ++ all_kept (left_types ls) (together uss)
-first_operands q us ls uss ops = all_kept_joined (index_types (steps_of q)) (left_types ls) us (together uss) (operands_are (steps_of q) us ops)
+pub first_operands : (q : Pl) (us : List Value) (ls : List Left) (uss : List (List Value)) → PlaceOperands q us → all_kept (left_types (to q ∷ ls)) (together (us ∷ uss)) ≡ all_kept (operand_types q) us ++ all_kept (left_types ls) (together uss)
+first_operands q us ls uss ops = all_kept_joined (operand_types q) (left_types ls) us (together uss) (place_operands_are q us ops)
 
 module _ (m : Built) (around : Setting) (sites_are : around.sites ≡ m.program.sites) where
   -- what holds of the sites in scope before the left sides: each comes before the new ones or after them all
@@ -95,10 +104,19 @@ module _ (m : Built) (around : Setting) (sites_are : around.sites ≡ m.program.
   Keeping before scope first env n top = (v : ℕ) → InScope v before → InScope v scope × (env v ≡ first v) × ((v < n) ⊎ (top ≤ v))
 
   -- a place keeps its variable
-  kept_place : (before scope : List ℕ) (first env : Env) (n top : ℕ) (t : TypeTree) (p : Pl) → Keeping before scope first env n top → PlFits m.program before t p → Located m scope t p × (variable_of env p ≡ variable_of first p)
-  kept_place before scope first env n top t (local site steps) keeping fit = let k = keeping site fit.0 in let l = located m before t (local site steps) fit in ((k.0, l.1, l.2), k.1)
-  kept_place before scope first env n top t (global g steps) keeping fit = (located m before t (global g steps) fit, refl)
-  kept_place before scope first env n top t p keeping fit = absurd fit
+  pointer_keeps : (env first : Env) (at : Position) (e : Ex) (n : ℕ) (steps : Steps) (us : List Value) → variable_of env (indirect at e n steps) us ≡ variable_of first (indirect at e n steps) us
+  pointer_keeps env first at e n steps [] = refl
+  pointer_keeps env first at e n steps (u ∷ us) = refl
+
+  element_keeps : (env first : Env) (at : Position) (e i : Ex) (n : ℕ) (steps : Steps) (us : List Value) → variable_of env (slice_element at e i n steps) us ≡ variable_of first (slice_element at e i n steps) us
+  element_keeps env first at e i n steps [] = refl
+  element_keeps env first at e i n steps (u ∷ us) = refl
+
+  kept_place : (before scope : List ℕ) (first env : Env) (n top : ℕ) (t : TypeTree) (p : Pl) → Keeping before scope first env n top → PlFits m.program before t p → Located m scope t p × ((us : List Value) → variable_of env p us ≡ variable_of first p us)
+  kept_place before scope first env n top t (local site steps) keeping fit = let k = keeping site fit.0 in let l = located m before t (local site steps) fit in ((k.0, l.1, l.2), λ us. k.1)
+  kept_place before scope first env n top t (global g steps) keeping fit = (located m before t (global g steps) fit, λ us. refl)
+  kept_place before scope first env n top t (indirect at e number steps) keeping fit = (located m before t (indirect at e number steps) fit, pointer_keeps env first at e number steps)
+  kept_place before scope first env n top t (slice_element at e i number steps) keeping fit = (located m before t (slice_element at e i number steps) fit, element_keeps env first at e i number steps)
 
   -- the first of the values that are left
   first_of : (t : TypeTree) (ts : List TypeTree) (x : Value) (vs : List Value) (gone tail all : List Kept) → IsOf t x → all ≡ gone ++ (all_kept (t ∷ ts) (x ∷ vs) ++ tail) → all ≡ gone ++ (kept t x ++ (all_kept ts vs ++ tail))
@@ -132,38 +150,41 @@ module _ (m : Built) (around : Setting) (sites_are : around.sites ≡ m.program.
       let here = fit.0 in let among = fit.1 in let solid = m.solid site in
       let kind = cell_kind m around sites_are site in
       let typed : IsOf cell.type x = subst (λ y. IsOf y x) (sym (kind ∙ fit.2)) are.0 in
-      let d = depth m.program m.placement (c0 ∷ calls) - site_slot s site in
       let first_held = λ (u : Memory) (g : Stands m v w (c0 ∷ calls) u). all_first t ts x vs gone tail all c0 calls v w u refl are.0 e g in
       let keeping1 : Keeping before (site ∷ scope) first (with_home env site (length w.store)) (suc n) top =
       λ u i. (inr (keeping u i).0, home_other env site (length w.store) u (λ q. elim (keeping u i).2 [ inl l ↦ absurd (omega arith) | inr l ↦ absurd (omega arith) ]) ∙ (keeping u i).1, elim (keeping u i).2 [ inl l ↦ inl (omega arith) | inr l ↦ inr l ]) in
       let below = ap length (next_held t ts x vs gone tail all are.0 e) in let among_all = length-append (gone ++ kept t x) (all_kept ts vs ++ tail) in
       turned m {lo1 = suc (suc lo)} (omega arith)
-      (births_filled m {lo = lo} {hi = 0} {G1 = Stands m (after_stack v d) (born w cell) (grown c0 site (length w.store) ∷ calls)} c0 calls v w site _ pc h cell has.0.0 has.1.0.0
-      (omega (arith, same, below, among_all, one_more gone t x h (width t) hg refl)) (omega arith) (omega arith) kind typed (λ u g. g)
+      (births_filled m {lo = lo} {hi = 0} c0 calls v w site pc h cell has.0.0 has.1.0.0
+      (omega (arith, same, below, among_all, one_more gone t x h (width t) hg refl)) (omega arith) (omega arith) kind typed
       (λ u g. subst (λ o. Stand m.program m.leading v.homes u.hi w (leaves o) (contents x) (words_at u.words (temp s h) n1)) (sym (kind ∙ fit.2)) (held_stand m v w c0 calls u gone (all_kept ts vs ++ tail) t x h n1 hg same (first_held u g)))
-      (λ u g k. k)
-      (lefts_follow ls ts vs (gone ++ kept t x) tail all uss ahead more c first (with_home env site (length w.store)) before (site ∷ scope) calls ws k (after_stack v d) (born w cell) (suc n) top at ho (h + width t) (pc + 1 + 1) lo b stops are.1 (one_more gone t x h (width t) hg refl) (next_held t ts x vs gone tail all are.0 e) gives hp eo ha has.1.1 fit.3 (omega arith) (omega arith) (omega arith) keeping1
+      (λ v2.
+      lefts_follow ls ts vs (gone ++ kept t x) tail all uss ahead more c first (with_home env site (length w.store)) before (site ∷ scope) calls ws k v2 (born w cell) (suc n) top at ho (h + width t) (pc + 1 + 1) lo b stops are.1 (one_more gone t x h (width t) hg refl) (next_held t ts x vs gone tail all are.0 e) gives hp eo ha has.1.1 fit.3 (omega arith) (omega arith) (omega arith) keeping1
       (λ env1 w1 v1. place_is m (let q : pc + suc (suc (lefts_size ls)) ≡ pc + 1 + 1 + lefts_size ls = omega arith in q) (post env1 w1 v1))))
   lefts_follow (to p ∷ ls) (t ∷ ts) (x ∷ vs) gone tail all [] ahead more c first env before scope calls ws k v w n top at ho h pc lo b stops are hg e gives hp eo ha has fit room from under keeping post = absurd gives
   lefts_follow (to p ∷ ls) (t ∷ ts) (x ∷ vs) gone tail all (us ∷ uss) ahead more c first env before scope calls ws k v w n top at ho h pc lo b stops are hg e gives hp eo ha has fit room from under keeping post =
       let s = slots_of m.program m.placement c.func in let above = place_above p ho in let c0 = during c env scope all in
-      let ca = address_code s p ho at in let land = land_code s p at h in let rest = lefts_code s (each_width ts) ls above at (h + width t) in
+      let ca = address_code s p ho at in let land = land_code s p ho at h in let rest = lefts_code s (each_width ts) ls above at (h + width t) in
       let has_l = back m.code c.fn pc (address_size p) ca (land ∷ []) (length_address s p ho at) (front m.code c.fn pc (ca ++ land ∷ []) rest has) in
       let has_r = back m.code c.fn pc (address_size p + 1) (ca ++ land ∷ []) rest (length_write s p ho at h) has in
       let same = kept_place before scope first env n top t p keeping fit.0 in
       let after = λ (y : World). Meaning.land_all around (landings first ls uss) vs ws env k y in
-      let ops = all_kept (index_types (steps_of p)) us in let others = all_kept (left_types ls) (together uss) in
+      let ops = all_kept (operand_types p) us in let others = all_kept (left_types ls) (together uss) in
       let apart : all ≡ ahead ++ (ops ++ (others ++ more)) = eo ∙ ap (λ l. ahead ++ (l ++ more)) (first_operands p us ls uss gives.0) ∙ ap (λ l. ahead ++ l) (append_assoc ops others more) in
-      settled_follow m p t us ahead (others ++ more) c0 calls ws env first (λ q. Meaning.write_part q.variable q.path x after) v w ho at pc lo b stops same.0 same.1 gives.0 apart hp ha (omega arith)
-      (front m.code c.fn pc ca (land ∷ []) (front m.code c.fn pc (ca ++ land ∷ []) rest has)) (λ path leads.
-      let by = place_held m env p t path in let c1 = during c env scope (all ++ by) in
+      settled_follow m p t us ahead (others ++ more) c0 calls ws env first (λ q. Meaning.write_part q.variable q.path x after) v w ho at pc lo b land stops same.0 (same.1 us) gives.0 apart hp ha (omega arith)
+      (front m.code c.fn pc ca (land ∷ []) (front m.code c.fn pc (ca ++ land ∷ []) rest has)) has_l.0.0 (near_offset s p, near_words s p, temp s h, inr (inl refl)) (λ somewhere way leads.
+      let by = place_held m env p us t way in let c1 = during c env scope (all ++ by) in let path = root_of p us ++ way in
       let among : all ++ by ≡ gone ++ (kept t x ++ ((all_kept ts vs ++ tail) ++ by)) =
       ap (λ l. l ++ by) (first_of t ts x vs gone tail all are.0 e) ∙ append_assoc gone (kept t x ++ (all_kept ts vs ++ tail)) by ∙ ap (λ l. gone ++ l) (append_assoc (kept t x) (all_kept ts vs ++ tail) by) in
-      let w1 = written w (variable_of env p) path x in
+      let beneath : all ++ by ≡ ahead ++ (ops ++ ((others ++ more) ++ by)) = ap (λ l. l ++ by) apart ∙ append_assoc ahead (ops ++ (others ++ more)) by ∙ ap (λ l. ahead ++ l) (append_assoc ops (others ++ more) by) in
+      let guided : Guided m (all ++ by) env p us t way ho at = record {
+        led = pointer_held p us ahead ((others ++ more) ++ by) (all ++ by) ho gives.0 somewhere beneath hp;
+        there = λ i f. ap (λ l. slice_get l at) (ap (λ l. all ++ l) (sym (append-nil by))) ∙ held_there m (far p) i t _ path _ all [] at ha f;
+      } in
+      let w1 = written w (variable_of env p us) path x in
       later m {lo = suc lo} {hi = 1} {b = b} (omega arith) (omega arith) (omega arith) (written_to m _ _ _
-      (subst (λ u. At m (suc lo) 1 b v (after (written w u path x)) (Stands m v w (c1 ∷ calls)) (pc + address_size p)) same.1
-      (landed m p t path x c1 calls gone ((all_kept ts vs ++ tail) ++ by) v w at h (pc + address_size p) lo 0 b _ has_l.0.0 same.0 leads
-      (λ i f. ap (λ l. slice_get l at) (ap (λ l. all ++ l) (sym (append-nil by))) ∙ held_there m (far p) i t _ path _ all [] at ha f) among hg are.0
+      (subst (λ u. At m (suc lo) 1 b v (after (written w u path x)) (Stands m v w (c1 ∷ calls)) (pc + address_size p)) (same.1 us)
+      (landed m p t us way x c1 calls gone ((all_kept ts vs ++ tail) ++ by) v w ho at h (pc + address_size p) lo 0 b _ has_l.0.0 same.0 leads guided among hg are.0
       (given m (λ u g. fewer m v w1 c0 calls u all by g)
       (lefts_follow ls ts vs (gone ++ kept t x) tail all uss (ahead ++ ops) more c first env before scope calls ws k v w1 n top at above (h + width t) (pc + address_size p + 1) lo b stops are.1 (one_more gone t x h (width t) hg refl) (next_held t ts x vs gone tail all are.0 e) gives.1
       (operands_above p us ho ahead hp gives.0) (apart ∙ sym (append_assoc ahead ops (others ++ more))) ha
@@ -180,21 +201,22 @@ module _ (m : Built) (around : Setting) (sites_are : around.sites ≡ m.program.
       let s = slots_of m.program m.placement c.func in let x = value_of w (env site) in let old = during c env scope held in let t = site_type m.program site in
       let n = width t in let solid = m.solid site in let cell = Meaning.new_cell entry site (Meaning.site_type around site) x in
       let kind = cell_kind m around sites_are site in
-      let c1 = during c env scope (held ++ kept t x) in let d = depth m.program m.placement (c1 ∷ calls) - site_slot s site in
+      let c1 = during c env scope (held ++ kept t x) in
       let q : pc + suc (suc (suc (renew_size sites))) ≡ pc + 1 + 1 + 1 + renew_size sites = omega arith in
       let env1 = with_home env site (length w.store) in
       knowing m (λ s0 g0.
-      let places = g0.homed.owned.0.among site among.0 in let typed = site_typed m old calls v w s0 site among.0 g0 in
+      let places = g0.homed.owned.0.among site among.0 in
       turned m {lo1 = suc (suc (suc lo))} (omega arith) (seen m _ (read_of m _ _ _
       (later m {lo = suc (suc (suc lo))} {hi = 1} {b = b} (omega arith) (omega arith) (omega arith)
-      (words_moved m {lo = suc (suc lo)} {hi = 1} {G1 = Stands m v w (c1 ∷ calls)} Read n (temp s h) (site_slot s site) has.0.0
-      (λ u g. value_put m v w old calls u h t x (words_at u.words (site_slot s site) n) hh (omega arith) (site_stand m old calls v w u site among.0 g) g)
-      (births_filled m {lo = lo} {hi = 0} {G1 = Stands m (after_stack v d) (born w cell) (during c env1 scope held ∷ calls)} c1 calls v w site _ (pc + 1) h cell has.1.0.0 has.1.1.0.0 (omega arith) places.0 places.1 kind (subst (λ o. IsOf o x) (sym kind) typed) (λ u g. g)
+      (given m (held_none m v w old calls)
+      (fetched m (local site itself) t [] [] c1 calls held [] v w 0 0 h pc (suc (suc lo)) 1 b _ has.0.0 (among.0, refl, solid) (refl, λ z. refl) (record { led = tt; there = λ i f. absurd (omega (arith, f)) }) hh (omega arith) (λ typed.
+      births_filled m {lo = lo} {hi = 0} c1 calls v w site (pc + 1) h cell has.1.0.0 has.1.1.0.0 (omega arith) places.0 places.1 kind (subst (λ o. IsOf o x) (sym kind) typed)
       (λ u g. subst (λ o. Stand m.program m.leading v.homes u.hi w (leaves o) (contents x) (words_at u.words (temp s h) n)) (sym kind) (last_stand m v w old calls u held t x h n hh refl g))
-      (λ u g k. narrowed m.program m.placement m.max m.leading (after_stack v d) (born w cell) (during c env1 (site ∷ scope) held) calls (puts u (site_slot s site) (words_at u.words (temp s h) n)) env1 (site ∷ scope) scope (λ i j. inr j)
-      (fewer m (after_stack v d) (born w cell) (during c env1 (site ∷ scope) held) calls (puts u (site_slot s site) (words_at u.words (temp s h) n)) held (kept t x) k))
-      (renew_follows sites c env1 scope held calls entry k (after_stack v d) (born w cell) h (pc + 1 + 1 + 1) lo b hh (omega arith) among.1 has.1.1.1
-      (λ env2 w1 v1. place_is m q (post env2 w1 v1)))))))))
+      (λ v2. given m
+      (λ u g. narrowed m.program m.placement m.max m.leading v2 (born w cell) (during c env1 (site ∷ scope) held) calls u env1 (site ∷ scope) scope (λ i j. inr j)
+      (fewer m v2 (born w cell) (during c env1 (site ∷ scope) held) calls u held (kept t x) g))
+      (renew_follows sites c env1 scope held calls entry k v2 (born w cell) h (pc + 1 + 1 + 1) lo b hh (omega arith) among.1 has.1.1.1
+      (λ env2 w1 v1. place_is m q (post env2 w1 v1)))))))))))
 
   -- new variables with zeros
   pub zeros_follow : (sites : List ℕ) (c : Frame) (env : Env) (scope : List ℕ) (held : List Kept) (calls : List Frame) (entry : ℕ) (k : Env → Go) (v : View) (w : World) (n pc lo b : ℕ) → Standing m.code c.fn pc (zeros_code (slots_of m.program m.placement c.func) sites)
@@ -203,14 +225,10 @@ module _ (m : Built) (around : Setting) (sites_are : around.sites ≡ m.program.
       → At m lo 0 b v (Meaning.bear_zeros around entry sites env k w) (Stands m v w (during c env scope held ∷ calls)) pc
   zeros_follow [] c env scope held calls entry k v w n pc lo b has fit from post = place_is m (let e : pc + 0 ≡ pc = omega arith in e) (post env w v)
   zeros_follow (site ∷ sites) c env scope held calls entry k v w n pc lo b has fit from post =
-      let s = slots_of m.program m.placement c.func in let c0 = during c env scope held in let t = site_type m.program site in let n1 = width t in
+      let c0 = during c env scope held in
       let x = Meaning.zero_of around site in let cell = Meaning.new_cell entry site (Meaning.site_type around site) x in
-      let here = fit.0 in let among = fit.1 in let solid = m.solid site in let kind = cell_kind m around sites_are site in
-      let d = depth m.program m.placement (c0 ∷ calls) - site_slot s site in
+      let here = fit.0 in let among = fit.1 in
       turned m {lo1 = suc lo} (omega arith)
-      (births_at m {lo = lo} {hi = 0} {G1 = Stands m (after_stack v d) (born w cell) (grown c0 site (length w.store) ∷ calls)} c0 calls v w site _ pc cell (born_code s site) (λ u. replicate n1 0) has.0.0 (omega arith) (omega arith) kind (zero_typed m around sites_are site) (λ u g. g)
-      (λ u g. refl)
-      (λ u g. subst (λ o. Stand m.program m.leading v.homes u.hi w (leaves o) (contents x) (replicate n1 0)) (sym kind) (subst (λ y. Stand m.program m.leading v.homes u.hi w (leaves t) (contents y) (replicate n1 0)) (sym (zero_value m around sites_are site)) (zero_stands m.program m.leading v.homes u.hi w t)))
-      (λ u g k. k)
-      (zeros_follow sites c (with_home env site (length w.store)) (site ∷ scope) held calls entry k (after_stack v d) (born w cell) (suc n) (pc + 1) lo b has.1 fit.2 (omega arith)
+      (births_zero m {lo = lo} {hi = 0} c0 calls v w site pc cell has.0.0 (omega arith) (omega arith) (cell_kind m around sites_are site) (zero_value m around sites_are site)
+      (λ v2. zeros_follow sites c (with_home env site (length w.store)) (site ∷ scope) held calls entry k v2 (born w cell) (suc n) (pc + 1) lo b has.1 fit.2 (omega arith)
       (λ env1 w1 v1. place_is m (let e : pc + suc (length sites) ≡ pc + 1 + length sites = omega arith in e) (post env1 w1 v1))))

@@ -2,6 +2,8 @@ pub mod Scopes
 pub mod Standing
 pub mod Numbers
 pub mod Counting
+pub mod Places
+pub mod Settled
 pub mod Reached
 pub mod Moves
 pub mod OperatorsFollow
@@ -10,6 +12,9 @@ pub mod LinesFollow
 pub mod EqualityFollows
 pub mod Composites
 pub mod Temps
+pub mod SlicesFollow
+pub mod EvaluationEnds
+pub mod SliceValuesFollow
 pub mod EvaluationsFollow
 pub mod Births
 pub mod LeftsFollow
@@ -21,7 +26,9 @@ pub mod RoundsFollow
 pub mod SimpleFollow
 pub mod LoopsFollow
 pub mod ArrayRounds
+pub mod ElementsFollow
 pub mod ArraysFollow
+pub mod SliceRounds
 pub mod StatementsFollow
 pub mod FunctionsFollow
 pub mod PackageBirths

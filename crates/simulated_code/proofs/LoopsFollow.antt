@@ -61,7 +61,7 @@ module _ (m : Built) (around : Setting) (types : around.types ≡ m.program.type
       let has1 = back m.code c.fn pc (size fs e) ce (z ∷ (cx ++ j ∷ cy)) (length_code fs s e h pc) has in
       let has3 = back m.code c.fn p1 lx cx (j ∷ cy) (length_sts fs a named s x h out again p1) has1.1 in
       let q2 : pc + (size fs e + 1 + lx + 1 + ly) ≡ p2 + ly = omega arith in
-      ev_follows m around types inputs callees n cf e bools (during c env scope held) calls ws _ v w h pc lo b le hh leads.panics (front m.code c.fn pc ce (z ∷ (cx ++ j ∷ cy)) has) fit.0 (omega arith) (omega arith) (λ r w1 v1 ir.
+      ev_follows m around types inputs sites_are callees n cf e bools (during c env scope held) calls ws _ v w h pc lo b le hh leads.panics (front m.code c.fn pc ce (z ∷ (cx ++ j ∷ cy)) has) fit.0 (omega arith) (omega arith) (λ r w1 v1 ir.
       turned m {lo1 = suc (suc lo)} (omega arith)
       (branches m r (Meaning.exec_all around callees (suc n) x ws env k) (Meaning.exec_all around callees (suc n) y ws env k) v1 w1 (Stands m v1 w1 (during c env scope (held ++ kept bools r) ∷ calls)) (Stands m v1 w1 (during c env scope held ∷ calls)) (temp s h) p2 (pc + size fs e) (suc lo) b has1.0.0 ir
       (λ u g. (last_word m v1 w1 (during c env scope held) calls u held bools r h hh (inr refl) g, fewer m v1 w1 (during c env scope held) calls u held (kept bools r) g))
@@ -83,7 +83,7 @@ module _ (m : Built) (around : Setting) (types : around.types ≡ m.program.type
       let s = slots_of m.program m.placement c.func in let fs = m.program in
       let ce = ex_code fs s e h pc in let z = JumpZero (temp s h) behind in
       let has1 = back m.code c.fn pc (size fs e) ce (z ∷ []) (length_code fs s e h pc) has in
-      ev_follows m around types inputs callees n cf e bools (during c env scope held) calls ws _ v w h pc lo d (omega arith) hh stops (front m.code c.fn pc ce (z ∷ []) has) fit enough reaches (λ r w1 v1 ir.
+      ev_follows m around types inputs sites_are callees n cf e bools (during c env scope held) calls ws _ v w h pc lo d (omega arith) hh stops (front m.code c.fn pc ce (z ∷ []) has) fit enough reaches (λ r w1 v1 ir.
       turned m {lo1 = suc lo} (omega arith)
       (branches m r g1 g2 v1 w1 (Stands m v1 w1 (during c env scope (held ++ kept bools r) ∷ calls)) (Stands m v1 w1 (during c env scope held ∷ calls)) (temp s h) behind (pc + size fs e) lo d has1.0.0 ir
       (λ u g. (last_word m v1 w1 (during c env scope held) calls u held bools r h hh (inr refl) g, fewer m v1 w1 (during c env scope held) calls u held (kept bools r) g))
@@ -161,7 +161,7 @@ module _ (m : Built) (around : Setting) (types : around.types ≡ m.program.type
   range_follows e key (new site) body bodies ws env k v w held h looped outer scope q out again pc lo b le hh has fit enough reaches sc leads post = absurd fit
   range_follows e key (to p) body bodies ws env k v w held h looped outer scope q out again pc lo b le hh has fit enough reaches sc leads post = absurd fit
   range_follows e key blank body bodies ws env k v w held h looped outer scope q out again pc lo b le hh has fit enough reaches sc leads post =
-      ev_follows m around types inputs callees n cf e ints (during c env scope held) calls ws _ v w h pc lo b le hh leads.panics (front m.code c.fn pc ce rest has) fit.0 (omega arith) (omega arith) over
+      ev_follows m around types inputs sites_are callees n cf e ints (during c env scope held) calls ws _ v w h pc lo b le hh leads.panics (front m.code c.fn pc ce rest has) fit.0 (omega arith) (omega arith) over
     where
       test : ℕ
       test = pc + size m.program e + 1
@@ -254,7 +254,7 @@ module _ (m : Built) (around : Setting) (types : around.types ≡ m.program.type
           let cb0 = during c env1 scope all in let land = λ (env2 : Env). Meaning.in_loop (Meaning.exec_all around callees (suc n) body) (ways z) first then_next env2 in
           let room = key_room m.program (temps_of m.program m.placement c.func) h key (omega arith) in
           place_is m (let q1 : test + 2 ≡ test + 1 + 1 = omega arith in q1)
-          (ready_follow m around types inputs callees n cf (key ∷ []) (ints ∷ []) (left_far key) (sts_reach m.program body) q (c.func.first + c.func.count) cb0 calls (ways z) (λ xs ws1. Meaning.land around (first_landing xs) (int (pos i)) (ways z) env1 land) v1 w1 (h + 2) (test + 2) lo d (omega arith) (two_held z held h i hh) leads.panics
+          (ready_follow m around types inputs sites_are callees n cf (key ∷ []) (ints ∷ []) (left_far key) (sts_reach m.program body) q (c.func.first + c.func.count) cb0 calls (ways z) (λ xs ws1. Meaning.land around (first_landing xs) (int (pos i)) (ways z) env1 land) v1 w1 (h + 2) (test + 2) lo d (omega arith) (two_held z held h i hh) leads.panics
           (front m.code c.fn (test + 2) cr ck (front m.code c.fn (test + 2) cl (cb ++ counts) has_l)) fit.1 (omega arith) (omega (arith, key_alone m.program key (sts_reach m.program body))) (λ uss ws1 w2 v2 stops1 gives there.
           let ops = all_kept (left_types (key ∷ [])) (together uss) in
           let inside_room = lefts_room m.program (temps_of m.program m.placement c.func) (h + 2) (left_far key) (key ∷ []) (omega arith) in

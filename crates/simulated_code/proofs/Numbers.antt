@@ -13,7 +13,7 @@ use Rattle.typed_syntax.specs.declared.operators.BinOp.TheVariants.{Add, Sub, Mu
 use Rattle.typed_syntax.specs.declared.operators.UnOp.{UnOp}
 use Rattle.typed_syntax.specs.declared.operators.UnOp.TheVariants.{Plus, Negate, Complement, Not}
 use Rattle.typed_syntax.specs.Types.{TypeTree, PartTypes, ints, bools, struct_of, array_of, pointer_to, slice_of}
-use Rattle.typed_syntax.specs.Form.{IsPlain, IsArithmetic, IsStep, Takes, TakesOne}
+use Rattle.typed_syntax.specs.Form.{IsPlain, IsArithmetic, IsStep, TakesOne}
 use Rattle.meaning.specs.Trace.{Fault}
 use Rattle.meaning.specs.Operators.{divide, shift, of_ints, of_bools, binary_of, unary_of}
 use Rattle.isa.specs.Bin.{bit_of, word_of, divided, shifted, of_numbers, bin_of, un_of}
@@ -79,7 +79,17 @@ shifts : (t : TypeTree) (f : ℤ → ℕ → ℤ) (a d : ℤ) → t ≡ ints →
 shifts t f a (pos n) is e = (number_of t (f a (min n 64)) is, e (min n 64))
 shifts t f a (negsuc n) is e = λ strings. refl
 
-on_ints : (op : BinOp) (s t : TypeTree) (a d : ℤ) → Takes op s t → FitsSigned w64 a → Agree t (of_ints op a d) (of_numbers (operation op) a d)
+-- what an operator takes and gives where its operands are numbers or truth values
+abbrev pub TakesPlain : BinOp → (operands result : TypeTree) → Type 0
+TakesPlain Equal s t = IsPlain s × (t ≡ bools)
+TakesPlain NotEqual s t = IsPlain s × (t ≡ bools)
+TakesPlain Less s t = (s ≡ ints) × (t ≡ bools)
+TakesPlain LessEqual s t = (s ≡ ints) × (t ≡ bools)
+TakesPlain Greater s t = (s ≡ ints) × (t ≡ bools)
+TakesPlain GreaterEqual s t = (s ≡ ints) × (t ≡ bools)
+TakesPlain op s t = (s ≡ ints) × (t ≡ ints)
+
+on_ints : (op : BinOp) (s t : TypeTree) (a d : ℤ) → TakesPlain op s t → FitsSigned w64 a → Agree t (of_ints op a d) (of_numbers (operation op) a d)
 on_ints Add s t a d is f = (number_of t (int_wrapping_add w64 a d) is.1, signed_twice _)
 on_ints Sub s t a d is f = (number_of t (int_wrapping_sub w64 a d) is.1, signed_twice _)
 on_ints Mul s t a d is f = (number_of t (int_wrapping_mul w64 a d) is.1, signed_twice _)
@@ -98,7 +108,7 @@ on_ints LessEqual s t a d is f = (truth_of t (int_le a d) is.1, refl)
 on_ints Greater s t a d is f = (truth_of t (int_lt d a) is.1, refl)
 on_ints GreaterEqual s t a d is f = (truth_of t (int_le d a) is.1, refl)
 
-on_bools : (op : BinOp) (s t : TypeTree) (a d : Bool) → Takes op s t → s ≡ bools → Agree t (of_bools op a d) (bin_of (operation op) (bit_of a) (bit_of d))
+on_bools : (op : BinOp) (s t : TypeTree) (a d : Bool) → TakesPlain op s t → s ≡ bools → Agree t (of_bools op a d) (bin_of (operation op) (bit_of a) (bit_of d))
 on_bools Equal s t true true is e = (truth_of t true is.1, refl)
 on_bools Equal s t true false is e = (truth_of t false is.1, refl)
 on_bools Equal s t false true is e = (truth_of t false is.1, refl)
@@ -156,7 +166,7 @@ spelled_once (pointer_to n) v x y plain is sx sy = absurd (no_pointer n plain)
 spelled_once (slice_of n) v x y plain is sx sy = absurd (no_slice n plain)
 
 -- an operator of the source on numbers or truth values, and that of the machine on their words
-pub agrees : (op : BinOp) (s t : TypeTree) (v u : Value) (x y : ℕ) → IsPlain s → Takes op s t → IsOf s v → IsOf s u → Spells v x → Spells u y → Agree t (binary_of op v u) (bin_of (operation op) x y)
+pub agrees : (op : BinOp) (s t : TypeTree) (v u : Value) (x y : ℕ) → IsPlain s → TakesPlain op s t → IsOf s v → IsOf s u → Spells v x → Spells u y → Agree t (binary_of op v u) (bin_of (operation op) x y)
 agrees op ints t (int a) (int d) x y plain takes is iu sv su =
     subst (λ z. Agree t (of_ints op a d) (of_numbers (operation op) z (cast_signed w64 y))) (sym sv.0)
     (subst (λ z. Agree t (of_ints op a d) (of_numbers (operation op) a z)) (sym su.0) (on_ints op ints t a d takes (subst (λ z. FitsSigned w64 z) sv.0 (read_small x))))
@@ -202,7 +212,7 @@ agrees_one op (pointer_to n) v x takes is s = absurd (no_pointer n (takes_one op
 agrees_one op (slice_of n) v x takes is s = absurd (no_slice n (takes_one op (slice_of n) takes))
 
 -- the operators of assignments
-pub arithmetic_takes : (op : BinOp) → IsArithmetic op → Takes op ints ints
+pub arithmetic_takes : (op : BinOp) → IsArithmetic op → TakesPlain op ints ints
 arithmetic_takes Add is = (refl, refl)
 arithmetic_takes Sub is = (refl, refl)
 arithmetic_takes Mul is = (refl, refl)
@@ -221,6 +231,6 @@ arithmetic_takes LessEqual is = absurd is
 arithmetic_takes Greater is = absurd is
 arithmetic_takes GreaterEqual is = absurd is
 
-pub step_takes : (op : BinOp) → IsStep op → Takes op ints ints
-step_takes op (inl e) = subst (λ o. Takes o ints ints) (sym e) (refl, refl)
-step_takes op (inr e) = subst (λ o. Takes o ints ints) (sym e) (refl, refl)
+pub step_takes : (op : BinOp) → IsStep op → TakesPlain op ints ints
+step_takes op (inl e) = subst (λ o. TakesPlain o ints ints) (sym e) (refl, refl)
+step_takes op (inr e) = subst (λ o. TakesPlain o ints ints) (sym e) (refl, refl)

@@ -8,7 +8,7 @@ use Rattle.typed_syntax.specs.Value.{Value, IsOf}
 use Rattle.typed_syntax.specs.declared.operators.BinOp.{BinOp}
 use Rattle.typed_syntax.specs.declared.operators.UnOp.{UnOp}
 use Rattle.typed_syntax.specs.declared.operators.UnOp.TheVariants.{Plus, Negate, Complement, Not}
-use Rattle.typed_syntax.specs.Form.{IsPlain, Takes}
+use Rattle.typed_syntax.specs.Form.{IsPlain}
 use Rattle.meaning.specs.Trace.{World, Trace, Fault, Panic}
 use Rattle.meaning.specs.Operators.{binary_of}
 use Rattle.meaning.specs.Meaning
@@ -27,13 +27,13 @@ use Rattle.state_relation.proofs.Words.{Spells}
 use Rattle.state_relation.proofs.Built.{Built}
 use Rattle.state_relation.proofs.Distances.{put_own}
 use Rattle.state_relation.proofs.Rules.{state_of, seen_from, does_at, At, knowing, stepped, halts}
-use Rattle.simulated_code.proofs.Numbers.{Agree, agrees, spelled_once, unary_word}
+use Rattle.simulated_code.proofs.Numbers.{TakesPlain, Agree, agrees, spelled_once, unary_word}
 use Rattle.simulated_code.proofs.Standing.{Panics}
 
 module _ (m : Built) where
   -- on two operands in slots: a slot gets the word of what it gives, or it panics
   pub operates : (at : Position) (o : BinOp) (s t : TypeTree) (x y : Value) (ws : Ways) (env : Env) (k : Then Value) (v : View) (w : World) (G : Memory → Type 0) (G1 : Value → Memory → Type 0) (to left right pc lo hi b : ℕ) → slice_get m.code.instrs pc ≡ Some (Bin (operation o) to left right)
-      → Panics ws → IsPlain s → Takes o s t → IsOf s x → IsOf s y → ((u : Memory) → G u → length u.heap ≡ v.heap) → ((u : Memory) → G u → Spells x (slice_index u.words left) × Spells y (slice_index u.words right))
+      → Panics ws → IsPlain s → TakesPlain o s t → IsOf s x → IsOf s y → ((u : Memory) → G u → length u.heap ≡ v.heap) → ((u : Memory) → G u → Spells x (slice_index u.words left) × Spells y (slice_index u.words right))
       → ((r : Value) (word : ℕ) (u : Memory) → IsOf t r → Spells r word → G u → G1 r (sets u to word)) → ((r : Value) → IsOf t r → At m lo hi b v (k r w) (G1 r) (pc + 1))
       → At m (suc lo) 1 b v (Meaning.or_panic ws env at (binary_of o x y) k w) G pc
   operates at o s t x y ws env k v w G G1 to left right pc lo hi b here stops plain takes ix iy heaped stands keeps post =

@@ -25,7 +25,7 @@ use Rattle.value_laws.proofs.Lists.{held_joined}
 use Rattle.value_laws.proofs.Parts.{count_of, words_count}
 use Rattle.state_relation.specs.Leaves.{leaves}
 use Rattle.state_relation.specs.Views.{View, Range, after_apart, after_stack, distance, out_from}
-use Rattle.state_relation.specs.Relation.{Memory, to_none, Good, sites_of, words_before}
+use Rattle.state_relation.specs.Relation.{Memory, to_heap, Good, sites_of, words_before}
 use Rattle.state_relation.specs.Alike.{same_event, same_last}
 use Rattle.state_relation.proofs.PackageWords.{no_global, site_is}
 use Rattle.state_relation.proofs.Lists.{get_is}
@@ -102,7 +102,7 @@ module _ (p : Program) (pl : Placement) (l : Limits) (small : l.heap_max ≤ 2 ^
 
   -- what stands when so many are born
   pub record Begins (i : ℕ) (v : View) (w : World) (heap : List ℕ) : Type 0 where
-    pub good : Good p pl l.stack_max to_none v w [] (store_with heap)
+    pub good : Good p pl l.stack_max to_heap v w [] (store_with heap)
     pub count : length w.store ≡ i
     pub before : v.heap ≡ words_before p i
     pub room : length heap ≤ l.heap_max
@@ -121,10 +121,10 @@ module _ (p : Program) (pl : Placement) (l : Limits) (small : l.heap_max ≤ 2 ^
       let step = before_step p.sites (sites_of p.globals) i (omega (arith, length-map p.globals (λ (q : ℕ × Value). q.0))) in
       let step_wide : width (get_or p.sites (get_or (sites_of p.globals) i 0) ints) ≡ width y.type = ap (λ k. width (get_or p.sites k ints)) first ∙ ap width (sym kind) in
       record {
-        good = birth_apart p pl l.stack_max to_none v w [] (store_with heap) (words x) y (words_of x) wide (omega arith) (subst (λ o. IsOf o x) (sym kind) is)
-            (hold_stand p to_none v.homes (2 ^ 40 + l.stack_max) w (leaves y.type) (contents x) (words_of x) (value_fits y.type x (subst (λ o. IsOf o x) (sym kind) is)) (held_in (contents x) (words_of x) (words_hold x fits alone)))
+        good = birth_apart p pl l.stack_max to_heap v w [] (store_with heap) (words x) y (words_of x) wide (omega arith) (subst (λ o. IsOf o x) (sym kind) is)
+            (hold_stand p to_heap v.homes (2 ^ 40 + l.stack_max) w (leaves y.type) (contents x) (words_of x) (value_fits y.type x (subst (λ o. IsOf o x) (sym kind) is)) (held_in (contents x) (words_of x) (words_hold x fits alone)))
             (λ z. (sym type ∙ ap (λ k. global_type p k) (sym count), before ∙ ap (words_before p) (sym count))) g.good;
-        count = omega (arith, count, born_length p pl l.stack_max to_none w y);
+        count = omega (arith, count, born_length p pl l.stack_max to_heap w y);
         before = omega (arith, before, step, step_wide, wide);
         room = omega (arith, length-append heap (words_of x));
       }

@@ -18,11 +18,11 @@ use Rattle.state_relation.proofs.Rules.{At, Stands, place_is, given}
 use Rattle.state_relation.proofs.Values.{all_kept, held_none}
 use Rattle.simulated_code.proofs.Standing.{Standing, front, back, Panics}
 use Rattle.simulated_code.proofs.Moves.{CallsFollow}
-use Rattle.simulated_code.proofs.Reached.{steps_of, index_types, aimed}
+use Rattle.simulated_code.proofs.Places.{operand_types, aimed}
 use Rattle.simulated_code.proofs.EvaluationsFollow.{place_follows}
 use Rattle.simulated_code.proofs.LeftsFollow.{Gives, together, left_types, landings, first_operands}
 
-module _ (m : Built) (around : Setting) (types : around.types ≡ m.program.types) (inputs : around.items ≡ m.items) (callees : Calls) (n : ℕ) (cf : CallsFollow m callees n) where
+module _ (m : Built) (around : Setting) (types : around.types ≡ m.program.types) (inputs : around.items ≡ m.items) (sites_are : around.sites ≡ m.program.sites) (callees : Calls) (n : ℕ) (cf : CallsFollow m callees n) where
   pub ready_follow : (ls : List Left) (ts : List TypeTree) (behind others q limit : ℕ) (c : Frame) (calls : List Frame) (ws : Ways) (k : List Landing → Ways → Go) (v : View) (w : World) (h pc lo b : ℕ) → b ≤ suc n → length c.held ≡ h → Panics ws → Standing m.code c.fn pc (ready_code m.program (slots_of m.program m.placement c.func) ls h pc)
       → LeftsFit m.program c.scope q limit ts ls → h + lefts_need m.program ls behind ≤ temps_of m.program m.placement c.func → lefts_reach m.program ls others ≤ outgoing_of m.program c.func
       → ((uss : List (List Value)) (ws1 : Ways) (w1 : World) (v1 : View) → Panics ws1 → Gives ls uss → length (c.held ++ all_kept (left_types ls) (together uss)) ≡ lefts_above ls h
@@ -39,8 +39,8 @@ module _ (m : Built) (around : Setting) (types : around.types ≡ m.program.type
       let s = slots_of m.program m.placement c.func in let size = place_size m.program p 0 in let above = place_above p h in let next = place_end m.program p pc in
       let cp = place_code m.program s p h pc in let rest = ready_code m.program s ls above next in
       let e : pc + size ≡ next = sym (place_ends m.program p pc) in
-      place_follows m around types inputs callees n cf p t (lefts_need m.program ls behind) (lefts_reach m.program ls others) c calls ws _ v w h pc lo b le hh stops (front m.code c.fn pc cp rest has) fit.0 enough reaches (λ us w1 v1 those there room.
-      let ops = all_kept (index_types (steps_of p)) us in
+      place_follows m around types inputs sites_are callees n cf p t (lefts_need m.program ls behind) (lefts_reach m.program ls others) c calls ws _ v w h pc lo b le hh stops (front m.code c.fn pc cp rest has) fit.0 enough reaches (λ us w1 v1 those there room.
+      let ops = all_kept (operand_types p) us in
       place_is m (sym e)
       (ready_follow ls ts behind others q limit (hold c (c.held ++ ops)) calls (Meaning.holding_all ws (Meaning.aim_values ws.call (aimed c.env p us))) (λ xs ws1. k (on (aimed c.env p us) ∷ xs) ws1) v1 w1 above next lo b le there stops
       (subst (λ x. Standing m.code c.fn x rest) e (back m.code c.fn pc size cp rest (length_place m.program s p h pc) has)) fit.1 room (let r = place_others m.program (lefts_reach m.program ls others) p in omega arith) (λ uss ws1 w2 v2 stops1 gives wide.

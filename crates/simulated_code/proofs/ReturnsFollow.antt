@@ -13,25 +13,25 @@ use Rattle.meaning.specs.Store.{value_of, written}
 use Rattle.meaning.specs.Meaning
 use Rattle.meaning.specs.Meaning.{Env, Go, Then}
 use Rattle.isa.specs.declared.instr.Direction.TheVariants.{FromSlots}
-use Rattle.isa.specs.declared.instr.MoveEvent.TheVariants.{Read, Write}
-use Rattle.isa.specs.declared.instr.Instr.TheVariants.{Return, Incoming, Move}
+use Rattle.isa.specs.declared.instr.Instr.TheVariants.{Return, Incoming}
 use Rattle.machine.specs.Machine.{words_at, owner_of}
-use Rattle.program_code.specs.Code.{temp, site_slot, slots_of, result_code, named_write_code, named_read_code, named_read_size, values_code, leave_code}
+use Rattle.program_code.specs.Code.{temp, slots_of, site_access, fetch, result_code, named_write_code, named_read_code, named_read_size, values_code, leave_code}
 use Rattle.program_code.proofs.Sizes.{length_named_write, length_named_read}
 use Rattle.state_relation.specs.Leaves.{leaves, all_leaves}
 use Rattle.state_relation.specs.Views.{View}
-use Rattle.state_relation.specs.Relation.{Memory, puts, Kept, Frame, hold, during, depth, Stand, StandsFor, contents_of, nothing}
+use Rattle.state_relation.specs.Relation.{Memory, puts, part_place, Kept, Frame, hold, during, depth, Stand, StandsFor, contents_of, nothing}
 use Rattle.state_relation.proofs.Distances.{put_other}
 use Rattle.state_relation.proofs.Leaves.{leaves_length, all_leaves_length}
 use Rattle.state_relation.proofs.Relation.{same_later}
+use Rattle.state_relation.proofs.Changes.{home_value}
 use Rattle.state_relation.proofs.Built.{Built}
 use Rattle.state_relation.proofs.Rules.{At, Stands, knowing, later, place_is, given, turned, seen, read_of, written_to, stepped, frame_here, results_by}
-use Rattle.state_relation.proofs.Values.{kept, all_kept, all_kept_first, one_more, value_put, values_stand, fewer}
+use Rattle.state_relation.proofs.Values.{kept, all_kept, all_kept_first, one_more, values_stand, fewer}
 use Rattle.state_relation.proofs.Calls.{Passing, Linked, passing_put_above, good_above, first_returns, returned}
 use Rattle.simulated_code.proofs.Standing.{Standing, front, back}
-use Rattle.simulated_code.proofs.Reached.{landed}
-use Rattle.simulated_code.proofs.Temps.{last_stand, words_moved}
-use Rattle.simulated_code.proofs.Births.{site_stand, site_typed}
+use Rattle.simulated_code.proofs.Places.{site_home}
+use Rattle.simulated_code.proofs.Reached.{opened, place_typed, part_fetched, landed}
+use Rattle.simulated_code.proofs.Temps.{last_stand}
 use Rattle.simulated_code.proofs.Moves.{Passed, room_of, passing_joined, passing_kept}
 
 -- no values of no types
@@ -95,10 +95,9 @@ module _ (m : Built) where
   named_writes (site ∷ sites) (x ∷ vs) gone all c env scope calls g v w h pc lo b typed hg e has sub post =
       let s = slots_of m.program m.placement c.func in let t = site_type m.program site in let n = width t in let more = all_kept (map (site_type m.program) sites) vs in
       let solid = m.solid site in let c0 = during c env scope all in
-      let z : site_slot s site ≡ site_slot s site + 0 = omega arith in
       let split : all ≡ gone ++ (kept t x ++ more) = e ∙ ap (λ l. gone ++ l) (all_kept_first t (map (site_type m.program) sites) x vs typed.0) in
       turned m {lo1 = suc lo} (omega arith) (written_to m _ _ _
-      (landed m (local site itself) t [] x c0 calls gone more v w 0 h pc lo 0 b _ (subst (λ a. slice_get m.code.instrs pc ≡ Some (Move Write a (temp s h) n)) z has.0.0) (sub site (inl refl), refl, solid) (refl, λ i. refl) (λ i f. absurd (omega (arith, f))) split hg typed.0
+      (landed m (local site itself) t [] [] x c0 calls gone more v w 0 0 h pc lo 0 b _ has.0.0 (sub site (inl refl), refl, solid) (refl, λ i. refl) (record { led = tt; there = λ i f. absurd (omega (arith, f)) }) split hg typed.0
       (named_writes sites vs (gone ++ kept t x) all c env scope calls g v (written w (env site) [] x) (h + n) (pc + 1) lo b typed.1 (one_more gone t x h n hg refl) (split ∙ sym (append_assoc gone (kept t x) more)) has.1 (λ u i. sub u (inr i))
       (λ w1. place_is m (let q : pc + suc (length sites) ≡ pc + 1 + length sites = omega arith in q) (post w1)))))
 
@@ -119,14 +118,21 @@ module _ (m : Built) where
       let stands = λ (u : Memory) (g : Stands m v w (c1 ∷ calls) u). last_stand m v w c0 calls u [] t x 0 n refl refl g in
       let put = λ (u : Memory) (g : Stands m v w (c1 ∷ calls) u). set_above calls c1 v w u (leaves t) (contents x) i (words_at u.words (temp s 0) n) (omega (arith, long)) (omega (arith, long)) (stands u g) g in
       knowing m (λ u0 g0.
-      let typed = site_typed m c0 calls v w u0 site scoped g0.0 in let among = g0.0.homed.owned.0.among site scoped in
+      let home = site_home m c0 calls v w u0 site scoped g0.0 in let typed = place_typed m (env site) t v w c0 calls u0 g0.0 home in
       let count : length (contents x) ≡ length (leaves t) = count_of t x typed ∙ sym long in
       turned m {lo1 = suc (suc lo)} (omega arith) (read_of m _ _ _
-      (words_moved m {lo = suc lo} {hi = 1} {G1 = λ u. Stands m v w (c1 ∷ calls) u × Passing m v w calls ls cs a u} Read n (temp s 0) (site_slot s site) has.0.0
-      (λ u g. (
-        value_put m v w c0 calls u 0 t x (words_at u.words (site_slot s site) n) refl (omega arith) (site_stand m c0 calls v w u site scoped g.0) g.0,
-        passing_kept m v v w w calls ls cs a u (puts u (temp s 0) (words_at u.words (site_slot s site) n)) (same_later v.homes w) refl
-            (λ d le. let used = g.0.sized.used in let many = (site_stand m c0 calls v w u site scoped g.0).long in put_other u.words (temp s 0) (words_at u.words (site_slot s site) n) d (omega (arith, many, long)) (inr (omega (arith, many, long)))) g.1,
+      (stepped m {lo = suc lo} {hi = 1} {G1 = λ u. Stands m v w (c1 ∷ calls) u × Passing m v w calls ls cs a u} (fetch (site_access s site) 0 n (temp s 0)) (λ u. puts u (temp s 0) (part_place u home.place 0 n)) has.0.0
+      (λ u g.
+      let opens = opened m (local site itself) t [] [] c0 calls v w u 0 0 (scoped, refl, solid) (refl, λ z. refl) (record { led = tt; there = λ z f. absurd (omega (arith, f)) }) g.0 in
+      let fetches = part_fetched m t (env site) [] c0 calls [] [] v w u 0 pc (site_access s site) 0 t home refl refl (omega arith) g.0 opens in
+      let many = (home_value m.program m.placement m.max m.leading v w (c0 ∷ calls) u (env site) home.cell home.place [] t home.there home.home home.kind g.0).long in let used = g.0.sized.used in (
+        fetches.0,
+        fetches.1,
+        (
+          fetches.2,
+          passing_kept m v v w w calls ls cs a u (puts u (temp s 0) (part_place u home.place 0 n)) (same_later v.homes w) refl
+              (λ d le. put_other u.words (temp s 0) (part_place u home.place 0 n) d (omega (arith, many, long)) (inr (omega (arith, many, long)))) g.1,
+        ),
       ))
       (stepped m {lo = lo} {hi = 0} {G1 = λ u. Stands m v w (c0 ∷ calls) u × Passing m v w calls (ls ++ leaves t) (cs ++ contents x) a u} (Incoming FromSlots (temp s 0) i n) (λ u. puts u (fr + i) (words_at u.words (temp s 0) n)) has.1.0.0
       (λ u g. (

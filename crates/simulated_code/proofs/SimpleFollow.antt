@@ -7,8 +7,8 @@ use Rattle.typed_syntax.specs.declared.operators.BinOp.{BinOp}
 use Rattle.typed_syntax.specs.Value.{Value, int, bool, IsOf}
 use Rattle.typed_syntax.specs.Syntax.{all_width, Ex, Exs, Pl, Left, Piece, none, more, results, read_int, text, shown, declare, assign, update, bump, discard, break_stmt, continue_stmt, return_stmt, print, panic, exit, argument_words, all_wide, value_widths, read}
 use Rattle.typed_syntax.specs.Types.{TypeTree, ints, bools, struct_of, array_of, pointer_to, slice_of}
-use Rattle.simulated_code.proofs.Numbers.{arithmetic_takes, no_struct, no_array, no_pointer, no_slice, step_takes}
-use Rattle.typed_syntax.specs.Form.{IsPlain, AreOf, Takes, new_sites, scope_behind, ExsFit, ReturnFits}
+use Rattle.simulated_code.proofs.Numbers.{TakesPlain, arithmetic_takes, no_struct, no_array, no_pointer, no_slice, step_takes}
+use Rattle.typed_syntax.specs.Form.{IsPlain, AreOf, new_sites, scope_behind, ExsFit, ReturnFits}
 use Rattle.frames.specs.Frames.{far, lefts_far, behind_values, need, need_all, reach, reach_all, temps_of}
 use Rattle.meaning.specs.Trace.{World, Exit, Panic, raised, raised_text, exit_code}
 use Rattle.meaning.specs.Store.{value_of, written}
@@ -20,7 +20,7 @@ use Rattle.isa.specs.declared.instr.Instr.TheVariants.{Const, Bin, Jump, Exit as
 use Rattle.machine.specs.Machine.{stops as ends, exit_of, panics}
 use Rattle.machine.specs.declared.run_state.Ending.TheVariants.{Exit as Exited, Panic as Panicked}
 use Rattle.machine.specs.declared.run_state.Panic.TheVariants.{Text, Int, Bool as Truth, ExitCode}
-use Rattle.program_code.specs.Code.{temp, slots_of, operation, place_above, above_address, lefts_above, place_code, place_size, place_end, address_code, address_size, fetch_code, land_code, ready_code, lefts_sized, lefts_end, ex_code, exs_code, pieces_code, show_code, lefts_code, values_code, leave_code, raised_code, size, exs_size, pieces_size, lefts_size, shown_size}
+use Rattle.program_code.specs.Code.{temp, slots_of, operation, near_offset, near_words, place_above, above_address, lefts_above, place_code, place_size, place_end, address_code, address_size, fetch_code, land_code, ready_code, lefts_sized, lefts_end, ex_code, exs_code, pieces_code, show_code, lefts_code, values_code, leave_code, raised_code, size, exs_size, pieces_size, lefts_size, shown_size}
 use Rattle.program_code.proofs.Sizes.{length_address, length_place, length_ready, place_sum, place_ends, lefts_sum, lefts_ends, length_code, length_exs, length_pieces}
 use Rattle.program_code.proofs.Rooms.{address_room, lefts_room, place_others, lefts_others}
 use Rattle.simulated_code.proofs.Moves.{CallsFollow}
@@ -37,7 +37,9 @@ use Rattle.state_relation.proofs.Built.{Built}
 use Rattle.state_relation.proofs.Rules.{seen_from, At, Stands, knowing, later, place_is, given, turned, read_of, written_to, stepped, halts, state_of}
 use Rattle.state_relation.proofs.Values.{kept, all_kept, all_kept_length, one_more, temp_set, fewer}
 use Rattle.simulated_code.proofs.Standing.{Standing, front, back, Panics}
-use Rattle.simulated_code.proofs.Reached.{variable_of, steps_of, index_types, Located, located, LeadsTo, held_by, place_held, lacks_of, settled_follow, fetched, landed, aimed}
+use Rattle.simulated_code.proofs.Places.{variable_of, root_of, PlaceOperands, operand_types, Somewhere, pointer_held, Located, located, LeadsTo, held_by, place_held, lacks_of, aimed}
+use Rattle.simulated_code.proofs.Settled.{settled_follow}
+use Rattle.simulated_code.proofs.Reached.{Guided, fetched, landed}
 use Rattle.simulated_code.proofs.Temps.{last_word, held_there}
 use Rattle.simulated_code.proofs.LinesFollow.{piece_types, texts, line_follows, plain_follows}
 use Rattle.simulated_code.proofs.LeftsFollow.{together, left_types, landings, lefts_follow, zeros_follow}
@@ -59,14 +61,24 @@ module _ (m : Built) where
   address_wide zero t x path lacks at held hh = ap (λ l. length l) (append-nil held) ∙ hh
   address_wide (suc n) t x path lacks at held hh = omega (arith, length-append held (held_by m (suc n) t x path lacks), hh)
 
+  -- the operands of a place, its address above them, and what comes after that
+  guided : (q : Pl) (t : TypeTree) (us : List Value) (way : List ℕ) (env : Env) (held beyond : List Kept) (h there : ℕ) → length held ≡ h → PlaceOperands q us → Somewhere q us → length (held ++ all_kept (operand_types q) us) ≡ there
+      → Guided m (((held ++ all_kept (operand_types q) us) ++ place_held m env q us t way) ++ beyond) env q us t way h there
+  guided q t us way env held beyond h there hh ops somewhere above =
+      let ks = all_kept (operand_types q) us in let by = place_held m env q us t way in record {
+        led = pointer_held q us held (by ++ beyond) (((held ++ ks) ++ by) ++ beyond) h ops somewhere (append_assoc (held ++ ks) by beyond ∙ append_assoc held ks (by ++ beyond)) hh;
+        there = λ i f. ap (λ l. slice_get l there) (append_assoc (held ++ ks) by beyond) ∙ held_there m (far q) i t (variable_of env q us) (root_of q us ++ way) _ (held ++ ks) beyond there above f;
+      }
+
   module _ (c : Frame) (calls : List Frame) where
     -- two operands after a place's operands and its address: the operator, and the place gets the result
-    updated : (at : Position) (o : BinOp) (q : Pl) (path : List ℕ) (there a : ℕ) (ws : Ways) (env : Env) (scope : List ℕ) (held ks : List Kept) (x y : Value) (k : Env → Go) (v : View) (w : World) (pc lo b : ℕ)
-        → slice_get m.code.instrs pc ≡ Some (Bin (operation o) (temp (slots_of m.program m.placement c.func) a) (temp (slots_of m.program m.placement c.func) a) (temp (slots_of m.program m.placement c.func) (a + 1))) → slice_get m.code.instrs (pc + 1) ≡ Some (land_code (slots_of m.program m.placement c.func) q there a)
-        → length (held ++ ks) ≡ there → length ((held ++ ks) ++ place_held m env q ints path) ≡ a → a < temps_of m.program m.placement c.func → Located m scope ints q → LeadsTo m ints q path → Panics ws → Takes o ints ints → IsOf ints x → IsOf ints y → After m c calls held scope (pc + 1 + 1) lo b k
-        → At m (suc (suc lo)) 1 b v (Meaning.or_panic ws env at (binary_of o x y) (λ z. Meaning.write_part (variable_of env q) path z (k env)) w) (Stands m v w (during c env scope ((((held ++ ks) ++ place_held m env q ints path) ++ kept ints x) ++ kept ints y) ∷ calls)) pc
-    updated at o q path there a ws env scope held ks x y k v w pc lo b here lands hw ha room fit leads stops takes ix iy post =
-        let s = slots_of m.program m.placement c.func in let by = place_held m env q ints path in let base = (held ++ ks) ++ by in let c0 = during c env scope base in let site = variable_of env q in
+    updated : (at : Position) (o : BinOp) (q : Pl) (us : List Value) (way : List ℕ) (h there a : ℕ) (ws : Ways) (env : Env) (scope : List ℕ) (held : List Kept) (x y : Value) (k : Env → Go) (v : View) (w : World) (pc lo b : ℕ)
+        → slice_get m.code.instrs pc ≡ Some (Bin (operation o) (temp (slots_of m.program m.placement c.func) a) (temp (slots_of m.program m.placement c.func) a) (temp (slots_of m.program m.placement c.func) (a + 1))) → slice_get m.code.instrs (pc + 1) ≡ Some (land_code (slots_of m.program m.placement c.func) q h there a)
+        → length held ≡ h → PlaceOperands q us → Somewhere q us → length (held ++ all_kept (operand_types q) us) ≡ there → length ((held ++ all_kept (operand_types q) us) ++ place_held m env q us ints way) ≡ a → a < temps_of m.program m.placement c.func → Located m scope ints q → LeadsTo m ints q way → Panics ws → TakesPlain o ints ints → IsOf ints x → IsOf ints y → After m c calls held scope (pc + 1 + 1) lo b k
+        → At m (suc (suc lo)) 1 b v (Meaning.or_panic ws env at (binary_of o x y) (λ z. Meaning.write_part (variable_of env q us) (root_of q us ++ way) z (k env)) w) (Stands m v w (during c env scope ((((held ++ all_kept (operand_types q) us) ++ place_held m env q us ints way) ++ kept ints x) ++ kept ints y) ∷ calls)) pc
+    updated at o q us way h there a ws env scope held x y k v w pc lo b here lands hh ops somewhere hw ha room fit leads stops takes ix iy post =
+        let s = slots_of m.program m.placement c.func in let ks = all_kept (operand_types q) us in let by = place_held m env q us ints way in let base = (held ++ ks) ++ by in let c0 = during c env scope base in
+        let site = variable_of env q us in let path = root_of q us ++ way in
         let left = λ (u : Memory) (g : Stands m v w (during c env scope ((base ++ kept ints x) ++ kept ints y) ∷ calls) u). fewer m v w c0 calls u (base ++ kept ints x) (kept ints y) g in
         operates m at o ints ints x y ws env (λ z. Meaning.write_part site path z (k env)) v w (Stands m v w (during c env scope ((base ++ kept ints x) ++ kept ints y) ∷ calls)) (λ z. Stands m v w (during c env scope (base ++ kept ints z) ∷ calls)) (temp s a) (temp s a) (temp s (a + 1)) pc (suc lo) 1 b here stops (inl refl) takes ix iy (λ u g. g.sized.heap_used)
         (λ u g. (last_word m v w c0 calls u base ints x a ha (inl refl) (left u g), last_word m v w c0 calls u (base ++ kept ints x) ints y (a + 1) (one_more base ints x a 1 ha refl) (inl refl) g))
@@ -74,8 +86,7 @@ module _ (m : Built) where
         (λ z iz.
         let all = base ++ kept ints z in let w1 = written w site path z in
         written_to m _ _ _
-        (landed m q ints path z (during c env scope all) calls base [] v w there a (pc + 1) lo 0 b _ lands fit leads
-        (λ i f. ap (λ l. slice_get l there) (append_assoc (held ++ ks) by (kept ints z)) ∙ held_there m (far q) i ints site path _ (held ++ ks) (kept ints z) there hw f) (ap (λ l. base ++ l) (sym (append-nil (kept ints z)))) ha iz
+        (landed m q ints us way z (during c env scope all) calls base [] v w h there a (pc + 1) lo 0 b _ lands fit leads (guided q ints us way env held (kept ints z) h there hh ops somewhere hw) (ap (λ l. base ++ l) (sym (append-nil (kept ints z)))) ha iz
         (given m (λ u g. fewer m v w1 (during c env scope held) calls u held ks (fewer m v w1 (during c env scope held) calls u (held ++ ks) by (fewer m v w1 c0 calls u base (kept ints z) g))) (post env w1 v))))
 
   module _ (around : Setting) (strings : around.strings ≡ m.program.strings) (types : around.types ≡ m.program.types) (inputs : around.items ≡ m.items) (sites_are : around.sites ≡ m.program.sites)
@@ -95,10 +106,10 @@ module _ (m : Built) where
         (back m.code c.fn behind (exs_size m.program es) ces cls (length_exs m.program s es first behind) has_v) in
         let needs = max (need_all m.program es) (behind_values all (lefts_far ls)) in
         let enough1 = lefts_room m.program (temps_of m.program m.placement c.func) h needs ls enough in let reaches1 = lefts_others m.program (reach_all m.program es) ls in
-        ready_follow m around types inputs callees n cf ls fit.0 needs (reach_all m.program es) q limit (during c env scope held) calls ws _ v w h pc lo b le hh leads.panics (front m.code c.fn pc cr (ces ++ cls) has) fit.1 enough reaches (λ uss ws1 w1 v1 stops1 gives above.
+        ready_follow m around types inputs sites_are callees n cf ls fit.0 needs (reach_all m.program es) q limit (during c env scope held) calls ws _ v w h pc lo b le hh leads.panics (front m.code c.fn pc cr (ces ++ cls) has) fit.1 enough reaches (λ uss ws1 w1 v1 stops1 gives above.
         let ops = all_kept (left_types ls) (together uss) in let under = held ++ ops in
         place_is m (sym ends)
-        (evs_follow m around types inputs callees n cf es fit.0 (during c env scope under) calls ws1 (λ vs. Meaning.land_all around (landings env ls uss) vs ws env k) v1 w1 first behind lo b le above stops1 (front m.code c.fn behind ces cls has_v) fit.2 (omega arith) (omega arith) (λ vs w2 v2 are.
+        (evs_follow m around types inputs sites_are callees n cf es fit.0 (during c env scope under) calls ws1 (λ vs. Meaning.land_all around (landings env ls uss) vs ws env k) v1 w1 first behind lo b le above stops1 (front m.code c.fn behind ces cls has_v) fit.2 (omega arith) (omega arith) (λ vs w2 v2 are.
         let vals = all_kept fit.0 vs in
         let count : all_width fit.0 ≡ all = sym (all_wide_is m.program scope fit.0 es fit.2) in
         let long : length (under ++ vals) ≡ first + all = omega (arith, length-append under vals, all_kept_length fit.0 vs, count, above) in
@@ -114,65 +125,58 @@ module _ (m : Built) where
     update_follows at p o e ws env k v w held h looped outer scope q out again pc lo b le hh has fit enough reaches sc leads post =
         let s = slots_of m.program m.placement c.func in let fs = m.program in let c0 = during c env scope held in
         let there = place_above p h in let a = above_address (far p) there in let operands = place_size fs p 0 in let behind = place_end fs p pc + (address_size p + 1) in
-        let cp = place_code fs s p h pc in let ca = address_code s p h there in
-        let ce = ex_code fs s e (a + 1) behind in let i = Bin (operation o) (temp s a) (temp s a) (temp s (a + 1)) in let land = land_code s p there a in
-        let rest = fetch_code s p there a ∷ (ce ++ i ∷ (land ∷ [])) in
+        let cp = place_code fs s p h pc in let ca = address_code s p h there in let fetch = fetch_code s p h there a in
+        let ce = ex_code fs s e (a + 1) behind in let i = Bin (operation o) (temp s a) (temp s a) (temp s (a + 1)) in let land = land_code s p h there a in
+        let rest = fetch ∷ (ce ++ i ∷ (land ∷ [])) in
         let has_a = back m.code c.fn pc operands cp (ca ++ rest) (length_place fs s p h pc) has in
         let has_f = back m.code c.fn (pc + operands) (address_size p) ca rest (length_address s p h there) has_a in
         let begins : pc + operands + address_size p + 1 ≡ behind = omega (arith, place_ends fs p pc) in
         let has_e = subst (λ x. Standing m.code c.fn x (ce ++ i ∷ (land ∷ []))) begins has_f.1 in
         let has_o = back m.code c.fn behind (size fs e) ce (i ∷ (land ∷ [])) (length_code fs s e (a + 1) behind) has_e in
         let loc = located m scope ints p fit.1 in let needs = far p + 1 + need fs e in let others = place_others fs (reach fs e) p in
-        place_follows m around types inputs callees n cf p ints needs (reach fs e) c0 calls ws _ v w h pc lo b le hh leads.panics (front m.code c.fn pc cp (ca ++ rest) has) fit.1 enough reaches (λ us w0 v0 those above room.
-        let ks = all_kept (index_types (steps_of p)) us in
-        settled_follow m p ints us held [] (during c env scope (held ++ ks)) calls ws env env _ v0 w0 h there (pc + operands) lo b leads.panics loc refl those (ap (λ l. held ++ l) (sym (append-nil ks))) hh above (omega arith)
-        (front m.code c.fn (pc + operands) ca rest has_a) (λ path aims.
-        let by = place_held m env p ints path in let base = (held ++ ks) ++ by in let x = at_path (value_of w0 (variable_of env p)) path in
-        let wide = address_wide (far p) ints (variable_of env p) path (lacks_of m p) there (held ++ ks) above in let high = address_high (far p) there in
+        place_follows m around types inputs sites_are callees n cf p ints needs (reach fs e) c0 calls ws _ v w h pc lo b le hh leads.panics (front m.code c.fn pc cp (ca ++ rest) has) fit.1 enough reaches (λ us w0 v0 those above room.
+        let ks = all_kept (operand_types p) us in
+        settled_follow m p ints us held [] (during c env scope (held ++ ks)) calls ws env env _ v0 w0 h there (pc + operands) lo b fetch leads.panics loc refl those (ap (λ l. held ++ l) (sym (append-nil ks))) hh above (omega arith)
+        (front m.code c.fn (pc + operands) ca rest has_a) has_f.0.0 (near_offset s p, near_words s p, temp s a, inl refl) (λ somewhere way aims.
+        let path = root_of p us ++ way in let by = place_held m env p us ints way in let base = (held ++ ks) ++ by in let x = at_path (value_of w0 (variable_of env p us)) path in
+        let wide = address_wide (far p) ints (variable_of env p us) path (lacks_of m p) there (held ++ ks) above in let high = address_high (far p) there in
         later m {lo = suc (suc (suc lo))} {hi = 1} {b = b} (omega arith) (omega arith) (omega arith) (read_of m _ _ _
         (given m (λ u g. subst (λ l. Stands m v0 w0 (during c env scope l ∷ calls) u) (sym (append-nil base)) g)
-        (fetched m p ints path c0 calls base [] v0 w0 there a (pc + operands + address_size p) (suc (suc lo)) 0 b _ has_f.0.0 loc aims
-        (λ j f. ap (λ l. slice_get l there) (append_assoc (held ++ ks) by []) ∙ held_there m (far p) j ints (variable_of env p) path _ (held ++ ks) [] there above f) wide (omega arith) (λ ix.
+        (fetched m p ints us way c0 calls base [] v0 w0 h there a (pc + operands + address_size p) (suc (suc lo)) 0 b _ has_f.0.0 loc aims (guided p ints us way env held [] h there hh those somewhere above) wide (omega arith) (λ ix.
         place_is m (sym begins)
-        (ev_follows m around types inputs callees n cf e ints (hold c0 (base ++ kept ints x)) calls (Meaning.holding (Meaning.holding_all ws (Meaning.base_values ws.call (aimed env p us).base)) (read p) x) _ v0 w0 (a + 1) behind (suc (suc lo)) b le (one_more base ints x a 1 wide refl) leads.panics (front m.code c.fn behind ce (i ∷ (land ∷ [])) has_e) fit.2 (omega arith) (omega arith) (λ y w1 v1 iy.
+        (ev_follows m around types inputs sites_are callees n cf e ints (hold c0 (base ++ kept ints x)) calls (Meaning.holding (Meaning.holding_all ws (Meaning.base_values ws.call (aimed env p us).base)) (read p) x) _ v0 w0 (a + 1) behind (suc (suc lo)) b le (one_more base ints x a 1 wide refl) leads.panics (front m.code c.fn behind ce (i ∷ (land ∷ [])) has_e) fit.2 (omega arith) (omega arith) (λ y w1 v1 iy.
         later m {lo = suc (suc lo)} {hi = 1} {b = b} (omega arith) (omega arith) (omega arith)
-        (updated c calls at o p path there a ws env scope held ks x y k v1 w1 (behind + size fs e) lo b has_o.0.0 has_o.1.0.0 above wide (omega arith) loc aims leads.panics (arithmetic_takes o fit.0) ix iy
+        (updated c calls at o p us way h there a ws env scope held x y k v1 w1 (behind + size fs e) lo b has_o.0.0 has_o.1.0.0 hh those somewhere above wide (omega arith) loc aims leads.panics (arithmetic_takes o fit.0) ix iy
         (λ env1 w2 v2. place_is m (let r : pc + place_size fs p (address_size p + 1 + size fs e + 1 + 1) ≡ behind + size fs e + 1 + 1 = omega (arith, place_sum fs p (address_size p + 1 + size fs e + 1 + 1), begins) in r) (post refl env1 w2 v2)))))))))))
 
     pub bump_follows : (at : Position) (p : Pl) (o : BinOp) → Followed m c calls around callees n (bump at p o)
     bump_follows at p o ws env k v w held h looped outer scope q out again pc lo b le hh has fit enough reaches sc leads post =
         let s = slots_of m.program m.placement c.func in let fs = m.program in let c0 = during c env scope held in
         let there = place_above p h in let a = above_address (far p) there in let size = place_size fs p 0 in let behind = pc + size + address_size p + 1 in
-        let cp = place_code fs s p h pc in let ca = address_code s p h there in
-        let i = Bin (operation o) (temp s a) (temp s a) (temp s (a + 1)) in let land = land_code s p there a in
-        let rest = fetch_code s p there a ∷ (Const (temp s (a + 1)) 1 ∷ (i ∷ (land ∷ []))) in
+        let cp = place_code fs s p h pc in let ca = address_code s p h there in let fetch = fetch_code s p h there a in
+        let i = Bin (operation o) (temp s a) (temp s a) (temp s (a + 1)) in let land = land_code s p h there a in
+        let rest = fetch ∷ (Const (temp s (a + 1)) 1 ∷ (i ∷ (land ∷ []))) in
         let has_a = back m.code c.fn pc size cp (ca ++ rest) (length_place fs s p h pc) has in
         let has_f = back m.code c.fn (pc + size) (address_size p) ca rest (length_address s p h there) has_a in
         let loc = located m scope ints p fit.1 in
-        place_follows m around types inputs callees n cf p ints (far p + 2) 0 c0 calls ws _ v w h pc lo b le hh leads.panics (front m.code c.fn pc cp (ca ++ rest) has) fit.1 enough reaches (λ us w0 v0 those above room.
-        let ks = all_kept (index_types (steps_of p)) us in
-        settled_follow m p ints us held [] (during c env scope (held ++ ks)) calls ws env env _ v0 w0 h there (pc + size) lo b leads.panics loc refl those (ap (λ l. held ++ l) (sym (append-nil ks))) hh above (omega arith)
-        (front m.code c.fn (pc + size) ca rest has_a) (λ path aims.
-        let by = place_held m env p ints path in let base = (held ++ ks) ++ by in let x = at_path (value_of w0 (variable_of env p)) path in
-        let wide = address_wide (far p) ints (variable_of env p) path (lacks_of m p) there (held ++ ks) above in let high = address_high (far p) there in
+        place_follows m around types inputs sites_are callees n cf p ints (far p + 2) 0 c0 calls ws _ v w h pc lo b le hh leads.panics (front m.code c.fn pc cp (ca ++ rest) has) fit.1 enough reaches (λ us w0 v0 those above room.
+        let ks = all_kept (operand_types p) us in
+        settled_follow m p ints us held [] (during c env scope (held ++ ks)) calls ws env env _ v0 w0 h there (pc + size) lo b fetch leads.panics loc refl those (ap (λ l. held ++ l) (sym (append-nil ks))) hh above (omega arith)
+        (front m.code c.fn (pc + size) ca rest has_a) has_f.0.0 (near_offset s p, near_words s p, temp s a, inl refl) (λ somewhere way aims.
+        let path = root_of p us ++ way in let by = place_held m env p us ints way in let base = (held ++ ks) ++ by in let x = at_path (value_of w0 (variable_of env p us)) path in
+        let wide = address_wide (far p) ints (variable_of env p us) path (lacks_of m p) there (held ++ ks) above in let high = address_high (far p) there in
         later m {lo = suc (suc (suc (suc lo)))} {hi = 1} {b = b} (omega arith) (omega arith) (omega arith) (read_of m _ _ _
         (given m (λ u g. subst (λ l. Stands m v0 w0 (during c env scope l ∷ calls) u) (sym (append-nil base)) g)
-        (fetched m p ints path c0 calls base [] v0 w0 there a (pc + size + address_size p) (suc (suc (suc lo))) 1 b _ has_f.0.0 loc aims
-        (λ j f. ap (λ l. slice_get l there) (append_assoc (held ++ ks) by []) ∙ held_there m (far p) j ints (variable_of env p) path _ (held ++ ks) [] there above f) wide (omega arith) (λ ix.
+        (fetched m p ints us way c0 calls base [] v0 w0 h there a (pc + size + address_size p) (suc (suc (suc lo))) 1 b _ has_f.0.0 loc aims (guided p ints us way env held [] h there hh those somewhere above) wide (omega arith) (λ ix.
         let above_x = one_more base ints x a 1 wide refl in
         stepped m {lo = suc (suc lo)} {hi = 1} {G1 = Stands m v0 w0 (during c env scope ((base ++ kept ints x) ++ kept ints (int (pos 1))) ∷ calls)} (Const (temp s (a + 1)) 1) (λ u. sets u (temp s (a + 1)) 1) has_f.1.0.0
         (λ u g. (refl, refl, temp_set m v0 w0 (hold c0 (base ++ kept ints x)) calls u (a + 1) 1 ints (int (pos 1)) above_x (omega arith) tt refl (refl, omega arith) g))
-        (updated c calls at o p path there a ws env scope held ks x (int (pos 1)) k v0 w0 (behind + 1) lo b has_f.1.1.0.0 has_f.1.1.1.0.0 above wide (omega arith) loc aims leads.panics (step_takes o fit.0) ix tt
+        (updated c calls at o p us way h there a ws env scope held x (int (pos 1)) k v0 w0 (behind + 1) lo b has_f.1.1.0.0 has_f.1.1.1.0.0 hh those somewhere above wide (omega arith) loc aims leads.panics (step_takes o fit.0) ix tt
         (λ env1 w2 v2. place_is m (let r : pc + place_size fs p (address_size p + 1 + 2 + 1) ≡ behind + 1 + 1 + 1 = omega (arith, place_sum fs p (address_size p + 1 + 2 + 1)) in r) (post refl env1 w2 v2)))))))))
 
     pub discard_follows : (es : Exs) → Followed m c calls around callees n (discard es)
-    discard_follows (results f es) ws env k v w held h looped outer scope q out again pc lo b le hh has fit enough reaches sc leads post =
-        evs_follow m around types inputs callees n cf (results f es) fit.0 (during c env scope held) calls ws (λ vs. k env) v w h pc lo b le hh leads.panics has fit.1 enough reaches (λ vs w1 v1 are.
-        given m (λ u g. fewer m v1 w1 (during c env scope held) calls u held (all_kept fit.0 vs) g) (post refl env w1 v1))
-    discard_follows none ws env k v w held h looped outer scope q out again pc lo b le hh has fit enough reaches sc leads post = absurd fit
-    discard_follows (more e es) ws env k v w held h looped outer scope q out again pc lo b le hh has fit enough reaches sc leads post = absurd fit
-    discard_follows read_int ws env k v w held h looped outer scope q out again pc lo b le hh has fit enough reaches sc leads post =
-        evs_follow m around types inputs callees n cf read_int fit.0 (during c env scope held) calls ws (λ vs. k env) v w h pc lo b le hh leads.panics has fit.1 enough reaches (λ vs w1 v1 are.
+    discard_follows es ws env k v w held h looped outer scope q out again pc lo b le hh has fit enough reaches sc leads post =
+        evs_follow m around types inputs sites_are callees n cf es fit.0 (during c env scope held) calls ws (λ vs. k env) v w h pc lo b le hh leads.panics has fit.1 enough reaches (λ vs w1 v1 are.
         given m (λ u g. fewer m v1 w1 (during c env scope held) calls u held (all_kept fit.0 vs) g) (post refl env w1 v1))
 
     pub break_follows : Followed m c calls around callees n break_stmt
@@ -205,7 +209,7 @@ module _ (m : Built) where
         let ces = exs_code fs s es h pc in let behind = values_code s a (all_wide fs es) named h ++ leave_code s a named in
         let has_v = back m.code c.fn pc (exs_size fs es) ces behind (length_exs fs s es h pc) has in
         let r = return_values scope es fit in
-        evs_follow m around types inputs callees n cf es r.0 (during c env scope held) calls ws (λ vs. ws.returned vs env) v w h pc lo b le hh leads.panics (front m.code c.fn pc ces behind has) r.1 (omega arith) reaches (λ vs w1 v1 are.
+        evs_follow m around types inputs sites_are callees n cf es r.0 (during c env scope held) calls ws (λ vs. ws.returned vs env) v w h pc lo b le hh leads.panics (front m.code c.fn pc ces behind has) r.1 (omega arith) reaches (λ vs w1 v1 are.
         leads.returned vs (all_kept r.0 vs) (all_wide fs es) env scope held v1 w1 h (pc + exs_size fs es) hh has_v (r.2 vs are) (omega arith) sc.named)
 
     pub print_follows : (line : Bool) (ps : List Piece) → Followed m c calls around callees n (print line ps)
@@ -214,8 +218,8 @@ module _ (m : Built) where
         let cps = pieces_code fs s ps h pc in let show = show_code s line ps h in
         let has_l = back m.code c.fn pc (pieces_size fs ps) cps show (length_pieces fs s ps h pc) has in
         let e : pc + (pieces_size fs ps + shown_size line ps) ≡ pc + pieces_size fs ps + shown_size line ps = omega arith in
-        pieces_follow m around types inputs callees n cf ps (during c env scope held) calls ws _ v w h pc lo b le hh leads.panics (front m.code c.fn pc cps show has) fit enough reaches (λ vs w1 v1 are.
-        showing (pieces_plain m around types inputs callees n cf scope ps fit) line vs w1 v1 are has_l (place_is m e (given m (λ u g. fewer m v1 w1 (during c env scope held) calls u held (all_kept (piece_types ps) vs) g) (post refl env w1 v1))))
+        pieces_follow m around types inputs sites_are callees n cf ps (during c env scope held) calls ws _ v w h pc lo b le hh leads.panics (front m.code c.fn pc cps show has) fit enough reaches (λ vs w1 v1 are.
+        showing (pieces_plain m around types inputs sites_are callees n cf scope ps fit) line vs w1 v1 are has_l (place_is m e (given m (λ u g. fewer m v1 w1 (during c env scope held) calls u held (all_kept (piece_types ps) vs) g) (post refl env w1 v1))))
       where
         showing : AllPlain (piece_types ps) → (line : Bool) (vs : List Value) (w1 : World) (v1 : View) → AreOf (piece_types ps) vs → Standing m.code c.fn (pc + pieces_size m.program ps) (show_code (slots_of m.program m.placement c.func) line ps h)
             → At m lo 0 b v1 (k env w1) (Stands m v1 w1 (during c env scope (held ++ all_kept (piece_types ps) vs) ∷ calls)) (pc + pieces_size m.program ps + shown_size line ps)
@@ -245,7 +249,7 @@ module _ (m : Built) where
         let s = slots_of m.program m.placement c.func in let fs = m.program in
         let ce = ex_code fs s e h pc in
         let has_p = back m.code c.fn pc (size fs e) ce (raised_code t (temp s h) ∷ []) (length_code fs s e h pc) has in
-        ev_follows m around types inputs callees n cf e t (during c env scope held) calls ws _ v w h pc lo b le hh leads.panics (front m.code c.fn pc ce (raised_code t (temp s h) ∷ []) has) fit.1 enough reaches (λ x w1 v1 ix.
+        ev_follows m around types inputs sites_are callees n cf e t (during c env scope held) calls ws _ v w h pc lo b le hh leads.panics (front m.code c.fn pc ce (raised_code t (temp s h) ∷ []) has) fit.1 enough reaches (λ x w1 v1 ix.
         turned m {lo1 = suc lo} (omega arith) (raises at t x ws env v1 w1 _ (temp s h) (pc + size fs e) lo b fit.0 leads.panics has_p.0.0 ix (λ u g. g.sized.heap_used) (λ u g. last_word m v1 w1 (during c env scope held) calls u held t x h hh fit.0 g)))
 
     -- an exit, with a status or with a panic
@@ -266,7 +270,7 @@ module _ (m : Built) where
         let s = slots_of m.program m.placement c.func in let fs = m.program in
         let ce = ex_code fs s e h pc in
         let has_x = back m.code c.fn pc (size fs e) ce (ExitWith (temp s h) ∷ []) (length_code fs s e h pc) has in
-        ev_follows m around types inputs callees n cf e ints (during c env scope held) calls ws _ v w h pc lo b le hh leads.panics (front m.code c.fn pc ce (ExitWith (temp s h) ∷ []) has) fit enough reaches (λ x w1 v1 ix.
+        ev_follows m around types inputs sites_are callees n cf e ints (during c env scope held) calls ws _ v w h pc lo b le hh leads.panics (front m.code c.fn pc ce (ExitWith (temp s h) ∷ []) has) fit enough reaches (λ x w1 v1 ix.
         turned m {lo1 = suc lo} (omega arith) (by x w1 v1 ix has_x.0.0))
       where
         by : (x : Value) (w1 : World) (v1 : View) → IsOf ints x → slice_get m.code.instrs (pc + size m.program e) ≡ Some (ExitWith (temp (slots_of m.program m.placement c.func) h))

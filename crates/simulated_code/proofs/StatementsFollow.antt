@@ -1,21 +1,17 @@
 -- The machine follows statements.
-use Rattle.std.proofs.Common.{◌≡◌, ℕ, ◌+◌, Bool, List, length}
+use Rattle.std.proofs.Common.{◌≡◌, ℕ, List}
 use Rattle.typed_syntax.specs.Syntax.{St, Sts, over_int, over_length, over_copy, over_slice, over_pointer, over_pointed, declare, assign, update, bump, discard, block, if_stmt, for_stmt, range, break_stmt, continue_stmt, return_stmt, print, panic, exit, done, next}
-use Rattle.typed_syntax.specs.Form.{StFits}
 use Rattle.meaning.specs.Meaning.{Calls, Setting}
 use Rattle.state_relation.specs.Relation.{Frame}
 use Rattle.state_relation.proofs.Built.{Built}
 use Rattle.simulated_code.proofs.Moves.{CallsFollow}
 use Rattle.simulated_code.proofs.Leading.{Followed, AllFollowed}
 use Rattle.simulated_code.proofs.SimpleFollow.{declare_follows, assign_follows, update_follows, bump_follows, discard_follows, break_follows, continue_follows, return_follows, print_follows, raise_follows, quit_follows}
-use Rattle.simulated_code.proofs.ArraysFollow.{lengths_follow, copies_follow}
+use Rattle.simulated_code.proofs.ArraysFollow.{lengths_follow, copies_follow, pointers_follow, pointed_follow}
+use Rattle.simulated_code.proofs.SliceRounds.{slices_follow}
 use Rattle.simulated_code.proofs.LoopsFollow.{done_follows, next_follows, choose_follows, loop_follows, range_follows}
 
 module _ (m : Built) (around : Setting) (strings : around.strings ≡ m.program.strings) (types : around.types ≡ m.program.types) (inputs : around.items ≡ m.items) (sites_are : around.sites ≡ m.program.sites) (callees : Calls) (n : ℕ) (cf : CallsFollow m callees n) (c : Frame) (calls : List Frame) where
-  -- a form that no program in form has
-  none_follows : (x : St) → ((looped : Bool) (scope : List ℕ) (first last : ℕ) → StFits m.program c.func.results (length c.func.named) looped scope first last x → ⊥) → Followed m c calls around callees n x
-  none_follows x none ws env k v w held h looped outer scope q out again pc lo b le hh has fit enough reaches sc leads post = absurd (none looped scope q (c.func.first + c.func.count) fit)
-
   mutual
     exec_follows : (x : St) → Followed m c calls around callees n x
     exec_follows (declare sites) = declare_follows m around strings types inputs sites_are callees n cf c calls sites
@@ -29,9 +25,9 @@ module _ (m : Built) (around : Setting) (strings : around.strings ≡ m.program.
     exec_follows (range (over_int e) key value body) = range_follows m around types inputs sites_are callees n cf c calls e key value body (all_follow body)
     exec_follows (range (over_length x) key value body) = lengths_follow m around types inputs sites_are callees n cf c calls x key value body (all_follow body)
     exec_follows (range (over_copy site e x) key value body) = copies_follow m around types inputs sites_are callees n cf c calls site e x key value body (all_follow body)
-    exec_follows (range (over_slice e x) key value body) = none_follows (range (over_slice e x) key value body) (λ looped scope first last fit. fit)
-    exec_follows (range (over_pointer at e x t) key value body) = none_follows (range (over_pointer at e x t) key value body) (λ looped scope first last fit. fit)
-    exec_follows (range (over_pointed x) key value body) = none_follows (range (over_pointed x) key value body) (λ looped scope first last fit. fit)
+    exec_follows (range (over_slice e t) key value body) = slices_follow m around types inputs sites_are callees n cf c calls e t key value body (all_follow body)
+    exec_follows (range (over_pointer at e x t) key value body) = pointers_follow m around types inputs sites_are callees n cf c calls at e x t key value body (all_follow body)
+    exec_follows (range (over_pointed x) key value body) = pointed_follow m around types inputs sites_are callees n cf c calls x key value body (all_follow body)
     exec_follows break_stmt = break_follows m around strings types inputs sites_are callees n cf c calls
     exec_follows continue_stmt = continue_follows m around strings types inputs sites_are callees n cf c calls
     exec_follows (return_stmt es) = return_follows m around strings types inputs sites_are callees n cf c calls es

@@ -21,7 +21,7 @@ use Rattle.state_relation.proofs.Words.{Spells}
 use Rattle.state_relation.proofs.Built.{Built}
 use Rattle.state_relation.proofs.Rules.{At, Stands, stepped, zeroed_by}
 use Rattle.state_relation.proofs.Values.{kept, held_stand, held_room, held_word}
-use Rattle.simulated_code.proofs.Reached.{held_by}
+use Rattle.simulated_code.proofs.Places.{held_by}
 
 module _ (m : Built) where
   none_behind : (v : View) (w : World) (c : Frame) (calls : List Frame) (s : Memory) (held : List Kept) (t : TypeTree) (x : Value) → Stands m v w (hold c (held ++ kept t x) ∷ calls) s → Stands m v w (hold c (held ++ (kept t x ++ [])) ∷ calls) s

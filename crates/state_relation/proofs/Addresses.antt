@@ -7,7 +7,7 @@ use Rattle.meaning.specs.Trace.{World}
 use Rattle.state_relation.specs.Views.{Place}
 use Rattle.state_relation.specs.Relation.{Reaches, ReachesInto}
 
-times_sum : (a b n : ℕ) → (a + b) * n ≡ a * n + b * n
+pub times_sum : (a b n : ℕ) → (a + b) * n ≡ a * n + b * n
 times_sum zero b n = let e : 0 + b ≡ b = omega arith in let q = ap (λ k. k * n) e in omega arith
 times_sum (suc a) b n = let e : suc a + b ≡ suc (a + b) = omega arith in let q = ap (λ k. k * n) e in omega (arith, q, times_sum a b n, suc-mul a n, suc-mul (a + b) n)
 

@@ -10,16 +10,16 @@ use Rattle.meaning.specs.Meaning.{Item}
 use Rattle.meaning.specs.Output.{Limits}
 use Rattle.isa.specs.Code.{Tables}
 use Rattle.program_code.proofs.Compiled.{Compiled}
-use Rattle.state_relation.specs.Relation.{Leading, to_none}
+use Rattle.state_relation.specs.Relation.{Leading, to_heap}
 use Rattle.state_relation.specs.Alike.{AreNumbers}
 
--- A program in form, which variables live on the heap, where pointers and slices lead, which is nowhere as long as nothing in form makes
--- any, its code, the most words that the stack and the heap may have, and the items of the input.
+-- A program in form, which variables live on the heap, where pointers and slices lead, which is to these alone, its code, the most words
+-- that the stack and the heap may have, and the items of the input.
 pub record Built : Type 0 where
   pub program : Program
   pub placement : Placement
   pub leading : Leading
-  pub bare : leading ≡ to_none
+  pub apart : leading ≡ to_heap
   pub code : Tables
   pub max : ℕ
   pub heap_max : ℕ

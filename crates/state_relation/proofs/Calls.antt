@@ -37,7 +37,7 @@ gives_back t f frame ret link s =
     else (if follows_call t f ret then goes_back frame (code_frame t (owner_of t (ret - 1))) ret link s else stops s (WildReturn ret))
 
 -- more than the most, or not
-turned_round : {A : Type 0} (n max : ℕ) (x y : A) → (if nat_lt max n then x else y) ≡ (if nat_le n max then y else x)
+pub turned_round : {A : Type 0} (n max : ℕ) (x y : A) → (if nat_lt max n then x else y) ≡ (if nat_le n max then y else x)
 turned_round n max x y = elim (leb_tells n max) [
   | inl l ↦ ap (λ b. if b then x else y) (le-ltb max n l.1) ∙ sym (ap (λ b. if b then y else x) l.0)
   | inr l ↦ ap (λ b. if b then x else y) (lt-ltb max n l.1) ∙ sym (ap (λ b. if b then y else x) l.0)

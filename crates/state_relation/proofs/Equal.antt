@@ -189,7 +189,7 @@ module _ (m : Built) (v : View) (w : World) (calls : List Frame) (s : Memory) (g
     home_of : (x : ℕ) → MayLead m.leading v.homes x → (q : Place) × (v.homes x ≡ Some q)
     home_of x may = led_home m.leading v.homes x some_home may
 
-    word_small : (t : TypeTree) (c : Content) (x : ℕ) → StandsFor m.program m.leading v.homes s.hi w t c x → x < 2 ^ 64
+    pub word_small : (t : TypeTree) (c : Content) (x : ℕ) → StandsFor m.program m.leading v.homes s.hi w t c x → x < 2 ^ 64
     word_small ints (number z) x st = st.1
     word_small bools (truth true) x st = omega (arith, st)
     word_small bools (truth false) x st = omega (arith, st)

@@ -15,4 +15,12 @@ pub mod Values
 pub mod Touches
 pub mod Equal
 pub mod Addresses
+pub mod Stretches
+pub mod Slices
+pub mod SliceSteps
+pub mod SliceMoves
+pub mod SliceBirths
+pub mod SliceLiterals
+pub mod SliceAdds
+pub mod SliceAppends
 pub mod Calls

@@ -211,10 +211,6 @@ module _ (m : Built) where
   pub frame_here : (f pc : ℕ) (func : Func) → slice_get m.program.funcs f ≡ Some func → owner_of m.code pc ≡ f → code_frame m.code (owner_of m.code pc) ≡ frame_of m.program m.placement func
   frame_here f pc func named own = ap (code_frame m.code) own ∙ ap entry_frame (m.compiled.placed f func named).entry
 
-  -- the variables of a running function live in its frame
-  pub stays_here : (c : Frame) (calls : List Frame) (v : View) (w : World) (s : Memory) (site : ℕ) → c.func.first ≤ site → site < c.func.first + c.func.count → Stands v w (c ∷ calls) s → m.placement.on_heap site ≡ false
-  stays_here c calls v w s site first last g = m.placed.stacked c.fn c.func g.homed.owned.0.named site first last
-
   -- one word goes to a slot
   pub moved_one : (event : MoveEvent) (to from pc : ℕ) (s : Memory) → to < length s.words → from < length s.words → does_at (Move event to from 1) pc s ≡ Goes [] (state_of (pc + 1) (sets s to (slice_index s.words from)))
   moved_one event to from pc s room within =

@@ -120,8 +120,8 @@ set_place s (on_heap h) off xs = record s { heap = put_words s.heap (h + off) xs
 abbrev pub nothing : Content
 nothing = truth false
 
--- Which variables pointers and slices may lead to: none, as in programs in form, which make none that lead anywhere; those that live on
--- the heap, whose homes stay; or any, also one whose home has ended.
+-- Which variables pointers and slices may lead to: none; those that live on the heap, whose homes stay, as in programs in form with a
+-- placement that has rules; or any, also one whose home has ended.
 pub data Leading : Type 0 where
   to_none : Leading
   to_heap : Leading
