@@ -140,7 +140,7 @@ module _ (p : Program) (scope : List ℕ) (text : List ℕ) (s : Scope) (are_sho
       let r = map_some one (both (combined at op) a b) g is in
       let q = and_then_some (λ x. option_and_then (combined at op x) b) a r.0 r.1 in
       let k = and_then_some (combined at op q.0) b r.0 q.2 in
-      subst Fits r.2 (pair_fits s.types p scope agrees.formed at op q.0 k.0 r.0 (left q.0 q.1) (right k.0 k.1) k.2)
+      subst Fits r.2 (pair_fits s.types p scope agrees.formed agrees.no_slice at op q.0 k.0 r.0 (left q.0 q.1) (right k.0 k.1) k.2)
 
   -- a part
   fitting_part : (y : Operand) → IsFitting p scope s.types y → Operates y

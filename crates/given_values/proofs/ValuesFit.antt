@@ -24,8 +24,8 @@ use Rattle.typed_syntax.specs.Syntax as typed
 use Rattle.typed.specs.Tables.{Table}
 use Rattle.typed.specs.Trees.{trees, tree_named}
 use Rattle.typed.specs.Formed.{IsFormed}
-use Rattle.typed_syntax.specs.Form.{IsPlain, InScope, IsWord, TakesOne, ExFits, ExsFit}
-use Rattle.typed_syntax.specs.Types.{TypeTree, ints, bools, width}
+use Rattle.typed_syntax.specs.Form.{IsPlain, InScope, IsWord, IsComparable, TakesOne, ExFits, ExsFit}
+use Rattle.typed_syntax.specs.Types.{TypeTree, ints, bools}
 use Rattle.typed_syntax.specs.Value.{int}
 use Rattle.constants.specs.declared.constant.Constant.{Constant}
 use Rattle.constants.specs.declared.constant.Constant.TheVariants.{Number, Truth}
@@ -47,18 +47,19 @@ use Rattle.names.specs.declared.scope.GlobalId.{GlobalId}
 use Rattle.names.specs.declared.scope.Declared.TheVariants as declared
 use Rattle.names.specs.Scope.{Scope, Signature, type_number, type_tree, type_trees, declaration, signature, known}
 use Rattle.names.specs.declared.scope.Known.{Known}
-use Rattle.names.proofs.Trees.{int_tree, bool_tree, solid}
+use Rattle.names.proofs.Trees.{int_tree, bool_tree}
 use Rattle.given_values.specs.declared.wants.Wanted.{Wanted}
 use Rattle.given_values.specs.declared.wants.Wanted.TheVariants as wants
 use Rattle.given_values.specs.Given.{Part, said, valued, Gives, one, called, asking, quoted, printed, panicked, exited, known_type, single, operand_in, value_in, shown_type, shown_of, as_part, part_in, Seen, values, parts, type_in_one, single_types, Many, many_in, many, types_with, value_types, accepts, types_agree, accepts_operand, operand_agrees, values_agree, each, fits_with, fits, all_values, taken, asked, Callee, printer, panicker, reader, exiter, function, conversion, no_function, no_spread, no_text_spread, nothing, panicked_with, exit_places, exited_with, called_with, as_condition, measurer, measured, measure_constant}
 use Rattle.given_values.proofs.DecidedValues.{many_single}
 use Rattle.given_values.proofs.HeldCalls.{measured_int}
+use Rattle.given_values.proofs.NoSlices.{HoldsNoSlice, comparable}
 
 pub is_word : (z : ℤ) → is_int z ≡ true → IsWord (int z)
 is_word z h = grind (arith, int_lemmas)
 
 -- what a program has at the sites, functions and package variables of a scope: sites of these types, functions with these signatures, and
--- package variables of these types; and its types are those of the scope's table
+-- package variables of these types; and its types are those of the scope's table, which has no slices yet
 pub record Agrees (s : Scope) (p : Program) : Type 0 where
   pub sites : (k : ℕ) (site : Site) → slice_get s.sites k ≡ Some site → site_type p k ≡ tree_named s.types site.type_id.0
   pub functions : (f : ℕ) (sig : Signature) → signature s f ≡ Some sig
@@ -66,6 +67,7 @@ pub record Agrees (s : Scope) (p : Program) : Type 0 where
   pub globals : (g k : ℕ) (x : Known) → slice_get s.globals g ≡ Some k → known s k ≡ Some x → (g < length p.globals) × (global_type p g ≡ type_tree s.types (known_type x))
   pub types : p.types ≡ trees s.types
   pub formed : IsFormed s.types
+  pub no_slice : HoldsNoSlice s.types
 
 -- the package variables that names stand for have their numbers
 abbrev pub AreNumbered : Scope → Type 0
@@ -278,29 +280,29 @@ module _ (T : Table) (p : Program) (scope : List ℕ) where
     arithmetic_fits ShiftLeft at x y f g = (ints, (refl, refl), f, g)
     arithmetic_fits ShiftRight at x y f g = (ints, (refl, refl), f, g)
 
-    -- two values of one type, which has a word at least
-    alike_fits : (s t : ValueType) (y : Ex) → same_type s t ≡ true → ExFits p scope (type_tree T t) y → (0 < width (type_tree T s)) × ExFits p scope (type_tree T s) y
-    alike_fits s t y is g = (solid T formed (type_number T s), subst (λ (u : ValueType). ExFits p scope (type_tree T u) y) (sym (same_is s t is)) g)
+    -- two values of one type, which can be compared
+    alike_fits : HoldsNoSlice T → (s t : ValueType) (y : Ex) → same_type s t ≡ true → ExFits p scope (type_tree T t) y → IsComparable (type_tree T s) × ExFits p scope (type_tree T s) y
+    alike_fits no_slice s t y is g = (comparable T no_slice formed (type_number T s), subst (λ (u : ValueType). ExFits p scope (type_tree T u) y) (sym (same_is s t is)) g)
 
-    order_fits : (op : CompareOp) (s t : ValueType) (at : Pos) (x y : Ex) → takes (Compare op) s t ≡ true → ExFits p scope (type_tree T s) x → ExFits p scope (type_tree T t) y
+    order_fits : HoldsNoSlice T → (op : CompareOp) (s t : ValueType) (at : Pos) (x y : Ex) → takes (Compare op) s t ≡ true → ExFits p scope (type_tree T s) x → ExFits p scope (type_tree T t) y
         → ExFits p scope bools (typed.binary (position at) (compare_of op) x y)
-    order_fits Equal s t at x y is f g = let k = alike_fits s t y (comparable_same s t is) g in (type_tree T s, (k.0, refl), f, k.1)
-    order_fits NotEqual s t at x y is f g = let k = alike_fits s t y (comparable_same s t is) g in (type_tree T s, (k.0, refl), f, k.1)
-    order_fits Less Int Int at x y is f g = (ints, (refl, refl), as_number Int x refl f, as_number Int y refl g)
-    order_fits LessEqual Int Int at x y is f g = (ints, (refl, refl), as_number Int x refl f, as_number Int y refl g)
-    order_fits Greater Int Int at x y is f g = (ints, (refl, refl), as_number Int x refl f, as_number Int y refl g)
-    order_fits GreaterEqual Int Int at x y is f g = (ints, (refl, refl), as_number Int x refl f, as_number Int y refl g)
-    order_fits op s t at x y is f g = absurd cc is
+    order_fits no_slice Equal s t at x y is f g = let k = alike_fits no_slice s t y (comparable_same s t is) g in (type_tree T s, (inl k.0, refl), f, k.1)
+    order_fits no_slice NotEqual s t at x y is f g = let k = alike_fits no_slice s t y (comparable_same s t is) g in (type_tree T s, (inl k.0, refl), f, k.1)
+    order_fits no_slice Less Int Int at x y is f g = (ints, (refl, refl), as_number Int x refl f, as_number Int y refl g)
+    order_fits no_slice LessEqual Int Int at x y is f g = (ints, (refl, refl), as_number Int x refl f, as_number Int y refl g)
+    order_fits no_slice Greater Int Int at x y is f g = (ints, (refl, refl), as_number Int x refl f, as_number Int y refl g)
+    order_fits no_slice GreaterEqual Int Int at x y is f g = (ints, (refl, refl), as_number Int x refl f, as_number Int y refl g)
+    order_fits no_slice op s t at x y is f g = absurd cc is
 
-    takes_fits : (op : BinOp) (s t : ValueType) → takes op s t ≡ true → (at : Pos) (x y : Ex) → ExFits p scope (type_tree T s) x → ExFits p scope (type_tree T t) y
+    takes_fits : HoldsNoSlice T → (op : BinOp) (s t : ValueType) → takes op s t ≡ true → (at : Pos) (x y : Ex) → ExFits p scope (type_tree T s) x → ExFits p scope (type_tree T t) y
         → ExFits p scope (type_tree T (result_type op)) (typed_pair at op x y)
-    takes_fits (Arithmetic op) s t is at x y f g =
+    takes_fits no_slice (Arithmetic op) s t is at x y f g =
         let k = takes_numbers op s t is in
         subst (λ (u : TypeTree). ExFits p scope u (typed.binary (position at) (arithmetic_of op) x y)) (sym (int_tree T formed)) (arithmetic_fits op at x y (as_number s x k.0 f) (as_number t y k.1 g))
-    takes_fits (Compare op) s t is at x y f g =
-        subst (λ (u : TypeTree). ExFits p scope u (typed.binary (position at) (compare_of op) x y)) (sym (bool_tree T formed)) (order_fits op s t at x y is f g)
-    takes_fits LogicalAnd s t is at x y f g = let k = takes_truths s t is in (bool_tree T formed, as_truth s x k.0 f, as_truth t y k.1 g)
-    takes_fits LogicalOr s t is at x y f g = let k = takes_either s t is in (bool_tree T formed, as_truth s x k.0 f, as_truth t y k.1 g)
+    takes_fits no_slice (Compare op) s t is at x y f g =
+        subst (λ (u : TypeTree). ExFits p scope u (typed.binary (position at) (compare_of op) x y)) (sym (bool_tree T formed)) (order_fits no_slice op s t at x y is f g)
+    takes_fits no_slice LogicalAnd s t is at x y f g = let k = takes_truths s t is in (bool_tree T formed, as_truth s x k.0 f, as_truth t y k.1 g)
+    takes_fits no_slice LogicalOr s t is at x y f g = let k = takes_either s t is in (bool_tree T formed, as_truth s x k.0 f, as_truth t y k.1 g)
 
     takes_prefix : (op : UnOp) (t : ValueType) (g : TypedPrefix) → takes_one op t ≡ true → prefix_of op ≡ Some g → TakesOne g (type_tree T t)
     takes_prefix Plus Int g is found = subst (λ (k : TypedPrefix). TakesOne k (type_tree T Int)) (same_some found) (int_tree T formed)
@@ -439,30 +441,30 @@ module _ (T : Table) (p : Program) (scope : List ℕ) where
 
     -- ---- operators
 
-    both_fit : (at : Pos) (op : BinOp) (s t : ValueType) (a b : Option Ex) (x : Operand) → takes op s t ≡ true → ((e : Ex) → a ≡ Some e → ExFits p scope (type_tree T s) e) → ((e : Ex) → b ≡ Some e → ExFits p scope (type_tree T t) e)
+    both_fit : HoldsNoSlice T → (at : Pos) (op : BinOp) (s t : ValueType) (a b : Option Ex) (x : Operand) → takes op s t ≡ true → ((e : Ex) → a ≡ Some e → ExFits p scope (type_tree T s) e) → ((e : Ex) → b ≡ Some e → ExFits p scope (type_tree T t) e)
         → both_values at op a b ≡ Some x → OperandFits x
-    both_fit at op s t None b x k f g is = absurd (none_some is)
-    both_fit at op s t (Some y) None x k f g is = absurd (none_some is)
-    both_fit at op s t (Some y) (Some z) x k f g is = some_fits (value (result_type op) (typed_pair at op y z)) x (takes_fits op s t k at y z (f y refl) (g z refl)) is
+    both_fit no_slice at op s t None b x k f g is = absurd (none_some is)
+    both_fit no_slice at op s t (Some y) None x k f g is = absurd (none_some is)
+    both_fit no_slice at op s t (Some y) (Some z) x k f g is = some_fits (value (result_type op) (typed_pair at op y z)) x (takes_fits no_slice op s t k at y z (f y refl) (g z refl)) is
 
-    value_pair_fits : (at : Pos) (op : BinOp) (x y z : Operand) → OperandFits x → OperandFits y → value_pair at op x y ≡ Some z → OperandFits z
-    value_pair_fits at op x y z f g is =
+    value_pair_fits : HoldsNoSlice T → (at : Pos) (op : BinOp) (x y z : Operand) → OperandFits x → OperandFits y → value_pair at op x y ≡ Some z → OperandFits z
+    value_pair_fits no_slice at op x y z f g is =
         let a = allowed_some (takes_both op (type_of x) (type_of y) && right_allowed op y) (both_values at op (as_value x) (as_value y)) z is in
         let k = both_true (takes_both op (type_of x) (type_of y)) (right_allowed op y) a.0 in
         let t = both_typed op (type_of x) (type_of y) k.0 in
-        both_fit at op t.0 t.1 (as_value x) (as_value y) z t.4 (λ e h. value_fits x t.0 e t.2 f h) (λ e h. value_fits y t.1 e t.3 g h) a.1
+        both_fit no_slice at op t.0 t.1 (as_value x) (as_value y) z t.4 (λ e h. value_fits x t.0 e t.2 f h) (λ e h. value_fits y t.1 e t.3 g h) a.1
 
     -- what constants are folded to is held by its type
     folded_fits : (b : Bool) (t : Option ValueType) (r : Result Const ConstFault) (x : Operand) → allowed b (constant_of t r) ≡ Some x → OperandFits x
     folded_fits b t r x is = constant_is OperandFits (λ f h. h) t r x (allowed_some b (constant_of t r) x is).1
 
-    pub pair_fits : (at : Pos) (op : BinOp) (x y z : Operand) → OperandFits x → OperandFits y → combined at op x y ≡ Some z → OperandFits z
-    pair_fits at op (constant a) (constant b) z f g is =
+    pub pair_fits : HoldsNoSlice T → (at : Pos) (op : BinOp) (x y z : Operand) → OperandFits x → OperandFits y → combined at op x y ≡ Some z → OperandFits z
+    pair_fits no_slice at op (constant a) (constant b) z f g is =
         folded_fits (takes op (constant_type a.value_type a.value) (constant_type b.value_type b.value) && converts op a b) (joint_type op a.value_type b.value_type) (worked_out op a b) z is
-    pair_fits at op (constant a) (value t y) z f g is = value_pair_fits at op (constant a) (value t y) z f g is
-    pair_fits at op (constant a) nil z f g is = value_pair_fits at op (constant a) nil z f g is
-    pair_fits at op (value s x) y z f g is = value_pair_fits at op (value s x) y z f g is
-    pair_fits at op nil y z f g is = value_pair_fits at op nil y z f g is
+    pair_fits no_slice at op (constant a) (value t y) z f g is = value_pair_fits no_slice at op (constant a) (value t y) z f g is
+    pair_fits no_slice at op (constant a) nil z f g is = value_pair_fits no_slice at op (constant a) nil z f g is
+    pair_fits no_slice at op (value s x) y z f g is = value_pair_fits no_slice at op (value s x) y z f g is
+    pair_fits no_slice at op nil y z f g is = value_pair_fits no_slice at op nil y z f g is
 
     pub prefix_fits : (op : UnOp) (x y : Operand) → OperandFits x → prefixed op x ≡ Some y → OperandFits y
     prefix_fits op (constant f) y fits is = folded_fits (takes_one op (constant_type f.value_type f.value)) f.value_type (folded_one op (const_of f.value)) y is

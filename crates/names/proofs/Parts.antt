@@ -10,7 +10,7 @@ use Rattle.base.specs.declared.value_type.ValueType.TheVariants.{Int, Bool as Tr
 use Rattle.typed_syntax.specs.Types.{TypeTree, PartTypes, ints, array_of, width, part_count, part_type as tree_part, types_in, nth_type, repeated}
 use Rattle.type_faults.proofs.Options.{and_then_some, map_some, none_some, same_some}
 use Rattle.type_faults.specs.Given.{allowed}
-use Rattle.typed.specs.Tables.{Table, Holds, type_at, fields_of, number_of}
+use Rattle.typed.specs.Tables.{Table, type_at, fields_of, number_of}
 use Rattle.typed.specs.Trees.{tree_of, tree_named, parts_by}
 use Rattle.typed.specs.Formed.{IsFormed, tree_at}
 use Rattle.typed.proofs.Numbers.{number_holds}

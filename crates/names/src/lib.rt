@@ -6,13 +6,15 @@
 //! number of the caller's for each.
 //!
 //! A scope is the open blocks, what their numbers stand for, and what is known of the variables, functions, constants, strings, types and
-//! structs of a program.
+//! structs of a program. It has a site for each variable of a type, and knows where new ones stand: in which function, in how many of its
+//! loops, and what a declaration makes there.
 #![tactic(auto)]
 
 mod blocks;
 mod fields;
 mod naming;
 mod scope;
+mod settings;
 mod type_names;
 mod universe;
 
@@ -22,5 +24,6 @@ pub use naming::{between, name_in, spelled};
 pub use scope::{
     Declared, External, GlobalId, Known, Measure, Scope, Signature, ValueId, beginning, type_id,
 };
+pub use settings::Setting;
 pub use type_names::{array_type, declared_type, is_known, type_fault, type_in, type_name_fault};
 pub use universe::{is_blank, is_main};

@@ -1,15 +1,19 @@
 //! What names stand for.
 
-ghost use Rattle.std.specs.Prelude.{◌≡◌, ◌<◌, length, map, OnOk, IfOk, Option, None, Some, ◌+◌};
+ghost use Rattle.std.specs.Prelude.{◌≡◌, ◌<◌, length, map, [], OnOk, IfOk, Option, None, Some, ◌+◌};
 ghost use Rattle.std.specs.Option.{option_map};
-ghost use Rattle.names.specs.Scope.{type_number, scope_of, signature_of, declaration, is_here, signature, known, beginning, with_declaration, with_site, with_variable, with_signature, with_value, with_global, with_known, with_strings, with_struct, opened, closed};
+ghost use Rattle.names.specs.Scope.{type_number, scope_of, signature_of, declaration, is_here, signature, known, beginning, with_declaration, with_site, with_variable, with_signature, with_value, with_global, with_known, with_strings, with_struct, opened, closed, heap_reason, site_function, site_at};
 
 use crate::blocks::Blocks;
+use crate::settings::Setting;
 use crate::universe::predeclared;
 use base::{FuncId, NoMemory, Pos, SiteId, TypeId, ValueType};
 use constants::Fixed;
 use std::alloc::Global;
-use typed::{INT, Site, TypeTable};
+use typed::{HeapReason, INT, NameRange, Site, SiteKind, TypeTable};
+
+/// The most words of a variable in a frame.
+const MOST_FRAME_WORDS: u32 = 8192;
 
 /// The number of a type in a typed program with this table.
 pub fn type_id(types: &TypeTable, value_type: ValueType) -> TypeId
@@ -92,7 +96,8 @@ pub enum Declared {
 /// The declarations that are in scope: the open blocks number them. And the sites of the variables that have a type, the
 /// signature of each function, where it has one, and the bytes of the strings that stand in statements so far. Of each
 /// constant and each package variable, which are numbered together, it says what is known, where something is. And the
-/// types of the program, and the fields of each struct: a block of names for each.
+/// types of the program, and the fields of each struct: a block of names for each. And where new sites stand, and the bytes of the
+/// names of the sites.
 #[derive(Drop)]
 pub struct Scope {
     pub names: Blocks,
@@ -104,6 +109,8 @@ pub struct Scope {
     pub strings: Vec<Vec<u8>>,
     pub types: TypeTable,
     pub fields: Vec<Blocks>,
+    pub setting: Setting,
+    pub site_names: Vec<u8>,
 }
 
 /// Where no name is declared.
@@ -120,7 +127,61 @@ pub fn beginning(alloc: Global) -> Result<Scope, NoMemory>
         strings: Vec::new(alloc),
         types: TypeTable::new(alloc, 0)?,
         fields: Vec::new(alloc),
+        setting: Setting::first(),
+        site_names: Vec::new(alloc),
     })
+}
+
+/// Why variables of a kind with so many words are on the heap, whatever flows.
+fn heap_reason(kind: SiteKind, words: u32) -> Option<HeapReason>
+    ensures { result ≡ heap_reason kind words }
+{
+    match kind {
+        SiteKind::Package => Some(HeapReason::Package),
+        _ => {
+            if words > MOST_FRAME_WORDS {
+                Some(HeapReason::Size)
+            } else {
+                None
+            }
+        }
+    }
+}
+
+/// The function of a site.
+fn site_function(kind: SiteKind, func: FuncId) -> Option<FuncId>
+    ensures { result ≡ site_function kind func }
+{
+    match kind {
+        SiteKind::Package => None,
+        _ => Some(func),
+    }
+}
+
+/// A site of a type, whose name has these bytes.
+fn site_at(
+    types: &TypeTable,
+    setting: Setting,
+    name: NameRange,
+    value_type: ValueType,
+    pos: Pos,
+) -> Site
+    ensures { result ≡ record (site_at setting types.now 0 [] value_type pos) { name = name } }
+{
+    let site_type = type_id(types, value_type);
+    let words = types.width(site_type);
+    Site {
+        pos,
+        type_id: site_type,
+        kind: setting.kind,
+        func: site_function(setting.kind, setting.func),
+        depth: setting.depth,
+        carried: setting.carried,
+        words: words as u64,
+        known: heap_reason(setting.kind, words),
+        name,
+        address_taken: false,
+    }
 }
 
 impl Scope {
@@ -291,15 +352,37 @@ impl Scope {
         }
     }
 
-    /// Adds a site of a type.
-    pub fn add_site(&mut self, value_type: ValueType, pos: Pos) -> Result<(), NoMemory>
-        ensures { OnOk result (scope_of self.new ≡ with_site (scope_of self.old) value_type pos) }
+    /// The bytes of one more name behind those of the sites.
+    fn next_name(&self, name: &[u8]) -> Result<NameRange, NoMemory>
+        ensures { IfOk result (λ r. r ≡ record {
+          start = length (scope_of self.now).site_names;
+          end = length (scope_of self.now).site_names + length name.now;
+        }) }
     {
-        let site_type = type_id(&self.types, value_type);
-        self.sites.push(Site {
-            pos,
-            type_id: site_type,
-        })?;
+        let start = self.site_names.len();
+        let Some(end) = start.checked_add(name.len()) else {
+            return Err(NoMemory);
+        };
+        match (u32::try_from(start), u32::try_from(end)) {
+            (Ok(start), Ok(end)) => Ok(NameRange { start, end }),
+            _ => Err(NoMemory),
+        }
+    }
+
+    /// Adds a site of a type, with a name or none.
+    pub fn add_site(
+        &mut self,
+        setting: Setting,
+        name: &[u8],
+        value_type: ValueType,
+        pos: Pos,
+    ) -> Result<(), NoMemory>
+        ensures { OnOk result (scope_of self.new ≡ with_site (scope_of self.old) setting name.now value_type pos) }
+    {
+        let range = self.next_name(name)?;
+        self.sites
+            .push(site_at(&self.types, setting, range, value_type, pos))?;
+        self.site_names.extend_from_slice(name)?;
         Ok(())
     }
 
@@ -316,7 +399,7 @@ impl Scope {
             Some(value_type) => {
                 let site = self.next_site()?;
                 self.declare(name, Declared::Variable(site, value_type))?;
-                self.add_site(value_type, pos)
+                self.add_site(self.setting, name, value_type, pos)
             }
             None => self.declare(name, Declared::Untyped),
         }

@@ -49,8 +49,8 @@ module _ (p : Program) (scope : List ℕ) where
   pub place_on : (u r : TypeTree) (q : Pl) (more : Steps) → PlFits p scope u q → StepsLead p scope u more r → 0 < width r → PlFits p scope r (place_then q more)
   place_on u r (local site steps) more a b w = (a.0, lead_on (site_type p site) u r steps more a.1 b, w)
   place_on u r (global g steps) more a b w = (a.0, lead_on (global_type p g) u r steps more a.1 b, w)
-  place_on u r (typed.indirect at e n steps) more a b w = absurd a
-  place_on u r (typed.slice_element at e i n steps) more a b w = absurd a
+  place_on u r (typed.indirect at e n steps) more a b w = (a.0, lead_on (type_named p n) u r steps more a.1 b, w)
+  place_on u r (typed.slice_element at e i n steps) more a b w = (a.0, a.1, lead_on (type_named p n) u r steps more a.2 b, w)
 
 -- ---- arrays
 

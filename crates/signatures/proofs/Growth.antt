@@ -13,10 +13,11 @@ use Rattle.syntax.specs.Expressions.{spelled}
 use Rattle.typed.specs.declared.program.Site.{Site}
 use Rattle.typed.specs.Tables.{Table}
 use Rattle.names.specs.Blocks.{Names, Blocks, with_entry, insert}
+use Rattle.names.specs.declared.settings.Setting.{Setting}
 use Rattle.names.specs.declared.scope.Declared.{Declared}
 use Rattle.names.specs.declared.scope.Declared.TheVariants.{Variable, Untyped}
 use Rattle.names.specs.Universe.{is_blank}
-use Rattle.names.specs.Scope.{Scope, Signature, is_here, with_variable, with_strings, outer, opened, closed}
+use Rattle.names.specs.Scope.{Scope, Signature, is_here, with_variable, with_strings, with_setting, outer, opened, closed}
 use Rattle.signatures.specs.declared.slots.Slot.{Slot}
 use Rattle.signatures.specs.Entries.{behind_entry_name, behind_entry, behind_entries}
 
@@ -130,6 +131,10 @@ keeps_strings s strings =
 
 pub grows_strings : (s : Scope) (strings : List (List ℕ)) → Grows s (with_strings s strings)
 grows_strings s strings = keeps_grows s (with_strings s strings) (keeps_strings s strings)
+
+-- another setting
+pub keeps_set : (s : Scope) (x : Setting) → Keeps s (with_setting s x)
+keeps_set s x = record { blocks = refl; declared = ([], sym (append-nil s.declared), tt); sites = extends_none s.sites; kept = refl; strings = omega arith }
 
 -- after a block
 pub keeps_inner : (s r : Scope) → Grows (opened s) r → Keeps s (closed r)

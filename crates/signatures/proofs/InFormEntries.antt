@@ -14,7 +14,7 @@ use Rattle.typed_syntax.specs.Types.{TypeTree, ints}
 use Rattle.base.specs.declared.value_type.ValueType.{ValueType}
 use Rattle.type_faults.proofs.Options.{and_then_some, map_some, none_some, same_some}
 use Rattle.names.specs.Universe.{is_blank}
-use Rattle.names.specs.Scope.{Scope, type_number, type_tree, type_trees, is_here, with_variable}
+use Rattle.names.specs.Scope.{Scope, type_tree, type_trees, is_here, with_variable, site_at}
 use Rattle.signatures.specs.declared.slots.Slot.{Slot}
 use Rattle.signatures.specs.declared.entries.Role.{Role}
 use Rattle.signatures.specs.declared.entries.Role.TheVariants.{Parameter, Result}
@@ -161,10 +161,10 @@ module _ (T : Table) (text : List ℕ) (p : Program) (all : List Site) (has : Ha
           → Whole (with_variable (Some t) s (spelled text n) n.pos) (Some (length s.sites) ∷ xs)
       variable n xs f x =
           let s1 = with_variable (Some t) s (spelled text n) n.pos in
-          let one1 : length s1.sites ≡ length s.sites + 1 = length-append s.sites (record { pos = n.pos; type_id = record { 0 = type_number s.types t } } ∷ []) in
+          let one1 : length s1.sites ≡ length s.sites + 1 = length-append s.sites (site_at s.setting s.types (length s.site_names) (spelled text n) t n.pos ∷ []) in
           let next1 : length s1.sites ≡ suc (length s.sites) = omega (arith, one1) in
           let before : Extends s1.sites all = extends_twice s1.sites (behind_entries text s1 ps).sites all (grows_entries text s1 ps).sites x in
-          let type_is = site_shown T p all has s1 types_are before (length s.sites) t (new_site s t n.pos) in
+          let type_is = site_shown T p all has s1 types_are before (length s.sites) t (new_site s s.setting (spelled text n) t n.pos) in
           ((refl, type_is, subst (λ j. ParamsFit p j (type_trees T ts) xs) next1 f.fit), f.visible, omega (arith, f.count, one1), ap suc f.long)
 
       with_name : (n : Name) (b h : Bool) (e : Option ℕ) (xs : List (Option ℕ)) → entry_of role b h (length s.sites) ≡ Some e

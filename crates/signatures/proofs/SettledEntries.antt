@@ -11,9 +11,10 @@ use Rattle.type_faults.specs.declared.fault.FaultKind.TheVariants.{Redeclared, O
 use Rattle.base.specs.declared.value_type.ValueType.{ValueType}
 use Rattle.type_faults.specs.Faults.{fault, IsFault}
 use Rattle.type_faults.proofs.Decided.{Decided, Tested, mapped, after}
+use Rattle.names.specs.declared.settings.Setting.{Setting}
 use Rattle.names.specs.declared.scope.Declared.{Declared}
 use Rattle.names.specs.Universe.{is_blank}
-use Rattle.names.specs.Scope.{Scope, is_here, with_variable, opened, closed}
+use Rattle.names.specs.Scope.{Scope, is_here, with_variable, with_setting, opened, closed}
 use Rattle.names.proofs.Settled.{IsTyped, IsSettled}
 use Rattle.signatures.specs.declared.slots.Slot.{Slot}
 use Rattle.signatures.specs.declared.entries.Role.{Role}
@@ -48,6 +49,9 @@ settled_opened s settled = record { all = settled.all; formed = settled.formed }
 
 pub settled_closed : (s : Scope) → IsSettled s → IsSettled (closed s)
 settled_closed s settled = record { all = settled.all; formed = settled.formed }
+
+pub settled_set : (s : Scope) (x : Setting) → IsSettled s → IsSettled (with_setting s x)
+settled_set s x settled = record { all = settled.all; formed = settled.formed }
 
 -- names with types that are known
 abbrev pub AllTyped : List Slot → Type 0

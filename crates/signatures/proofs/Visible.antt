@@ -10,12 +10,13 @@ use Rattle.typed.specs.Tables.{Table}
 use Rattle.type_faults.proofs.Options.{none_some}
 use Rattle.typed.specs.declared.program.Site.{Site}
 use Rattle.names.specs.Blocks.{Names, Blocks, entry_of, or_else, lookup, with_entry, insert}
+use Rattle.names.specs.declared.settings.Setting.{Setting}
 use Rattle.names.specs.declared.scope.Declared.{Declared}
 use Rattle.names.specs.declared.scope.ValueId.{ValueId}
 use Rattle.names.specs.declared.scope.GlobalId.{GlobalId}
 use Rattle.names.specs.declared.scope.Declared.TheVariants.{Variable, Global}
 use Rattle.names.specs.Universe.{predeclared}
-use Rattle.names.specs.Scope.{Scope, type_number, numbered, declaration, with_declaration, with_site, with_variable, with_strings, opened, beginning}
+use Rattle.names.specs.Scope.{Scope, type_number, numbered, declaration, with_declaration, with_site, with_variable, with_strings, with_setting, opened, site_at, beginning}
 use Rattle.names.proofs.Settled.{AreSound, predeclared_is}
 use Rattle.signatures.proofs.Growth.{Extends, Package, Keeps}
 
@@ -141,8 +142,8 @@ site_last [] x = refl
 site_last (y ∷ sites) x = site_last sites x
 
 -- the one that a new variable gets
-pub new_site : (s : Scope) (t : ValueType) (at : Pos) → HasSite s.types (with_site s t at).sites (length s.sites) t
-new_site s t at = (_, site_last s.sites (record { pos = at; type_id = record { 0 = type_number s.types t } }), refl)
+pub new_site : (s : Scope) (x : Setting) (name : List ℕ) (t : ValueType) (at : Pos) → HasSite s.types (with_site s x name t at).sites (length s.sites) t
+new_site s x name t at = (_, site_last s.sites (site_at x s.types (length s.site_names) name t at), refl)
 
 -- what a name stands for that a scope shows: a variable is in scope, with a site of its type; a package variable has its number
 abbrev pub IsShown : Table → List ℕ → List Site → List ℕ → Declared → Type 0
@@ -194,6 +195,9 @@ visible_opened s scope v = record { bounded = (tt, v.bounded); shown = v.shown; 
 pub visible_strings : (s : Scope) (scope : List ℕ) (strings : List (List ℕ)) → Visible s scope → Visible (with_strings s strings) scope
 visible_strings s scope strings v = record { bounded = v.bounded; shown = v.shown; held = v.held }
 
+pub visible_set : (s : Scope) (scope : List ℕ) (x : Setting) → Visible s scope → Visible (with_setting s x) scope
+visible_set s scope x v = record { bounded = v.bounded; shown = v.shown; held = v.held }
+
 -- the same blocks, and more declarations
 pub visible_kept : (s r : Scope) (scope : List ℕ) → Visible s scope → Keeps s r → Visible r scope
 visible_kept s r scope v k = record {
@@ -243,5 +247,5 @@ visible_more s sites scope wider name d v more into new1 =
 pub visible_with : (s : Scope) (scope name : List ℕ) (u : ValueType) (at : Pos) → Visible s scope → Visible (with_variable (Some u) s name at) (length s.sites ∷ scope)
 visible_with s scope name u at v =
     let d : Declared = Variable (record { 0 = length s.sites }) u in
-    let w = visible_more s (with_site s u at).sites scope (length s.sites ∷ scope) name d v (_, refl) (λ w h. inr h) (inl refl, new_site s u at) in
+    let w = visible_more s (with_site s s.setting name u at).sites scope (length s.sites ∷ scope) name d v (_, refl) (λ w h. inr h) (inl refl, new_site s s.setting name u at) in
     record { bounded = w.0; shown = w.1; held = v.held }

@@ -28,7 +28,7 @@ use Rattle.type_faults.proofs.Options.{and_then_some, map_some, none_some, same_
 use Rattle.operators.specs.Operands.{Operand, value, TypedPlace, place_of}
 use Rattle.operators.specs.Operators.{arithmetic_of, combined}
 use Rattle.names.specs.Universe.{is_blank}
-use Rattle.names.specs.Scope.{Scope, type_number, type_tree, type_trees, is_here, with_variable, with_strings}
+use Rattle.names.specs.Scope.{Scope, type_tree, type_trees, is_here, with_variable, with_strings, site_at}
 use Rattle.names.specs.Naming.{name_in}
 use Rattle.names.proofs.Trees.{int_tree}
 use Rattle.given_values.specs.declared.wants.Wanted.{Wanted}
@@ -161,10 +161,10 @@ module _ (T : Table) (p : Program) where
           → NewFit scope0 (with_variable (Some t) s (spelled text x) x.pos) (length s.sites ∷ scope) vs ts ls n → NewFit scope0 s scope (slot_with (Some t) x ∷ vs) (t ∷ ts) (new (length s.sites) ∷ ls) n
       new_left_one scope0 s scope x t vs ts ls n types_are le ext k =
           let s1 = with_variable (Some t) s (spelled text x) x.pos in
-          let site : Site = record { pos = x.pos; type_id = record { 0 = type_number s.types t } } in
+          let site : Site = site_at s.setting s.types (length s.site_names) (spelled text x) t x.pos in
           let one1 : length s1.sites ≡ length s.sites + 1 = length-append s.sites (site ∷ []) in
           let next1 : length s1.sites ≡ suc (length s.sites) = omega (arith, one1) in
-          let type_is = site_shown T p all has s1 types_are (extends_twice s1.sites (with_variables text s1 vs).sites all (grows_variables text s1 vs).sites ext) (length s.sites) t (new_site s t x.pos) in
+          let type_is = site_shown T p all has s1 types_are (extends_twice s1.sites (with_variables text s1 vs).sites all (grows_variables text s1 vs).sites ext) (length s.sites) t (new_site s s.setting (spelled text x) t x.pos) in
           record {
             fit = (refl, omega (arith, le, k.count, one1), type_is, subst (λ j. LeftsFit p scope0 j n (type_trees T ts) ls) next1 k.fit);
             visible = k.visible;
@@ -204,7 +204,7 @@ module _ (T : Table) (p : Program) where
               old_left scope0 s scope rest_slots t ts l rest n (target_old scope0 (place_in text s0 (expressions.name x)) t l (known0 (expressions.name x)) (λ u e. wants u (ap wanted_by e)) l_is) (later s scope rest types_are visible rest_is le1 ext1)
           by false false l rest wants l_is rest_is le1 ext1 later =
               let s1 = with_variable (Some t) s (spelled text x) x.pos in
-              let one1 : length s1.sites ≡ length s.sites + 1 = length-append s.sites (record { pos = x.pos; type_id = record { 0 = type_number s.types t } } ∷ []) in
+              let one1 : length s1.sites ≡ length s.sites + 1 = length-append s.sites (site_at s.setting s.types (length s.site_names) (spelled text x) t x.pos ∷ []) in
               let site : 1 + length s.sites ≡ length s1.sites = omega (arith, one1) in
               let found : new_lefts text s0 (length s1.sites) ns ≡ Some rest = ap (λ j. new_lefts text s0 j ns) (sym site) ∙ rest_is in
               subst (λ (y : Left). NewFit scope0 s scope (slot_with (Some t) x ∷ rest_slots) (t ∷ ts) (y ∷ rest) n) (same_some l_is)

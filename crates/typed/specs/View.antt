@@ -1,5 +1,5 @@
 -- The abstract syntax of typed programs.
-use Rattle.std.specs.Prelude.{ℕ, List, [], ◌∷◌, Option, Some, None, map, get_or}
+use Rattle.std.specs.Prelude.{ℕ, Bool as TruthValue, List, [], ◌∷◌, Option, Some, None, map, get_or}
 use Rattle.base.specs.declared.ids.SiteId.{SiteId}
 use Rattle.typed.specs.declared.expr.Const.{Const}
 use Rattle.typed.specs.declared.expr.Const.TheVariants.{Int, Bool}
@@ -177,6 +177,9 @@ first_value t (Some c) = value_of c
 abbrev pub site_types : List TypeTree → List Site → List TypeTree
 site_types types sites = map (λ site. type_in types site.type_id.0) sites
 
+abbrev pub addresses_taken : List Site → List TruthValue
+addresses_taken sites = map (λ site. site.address_taken) sites
+
 -- a package variable, where these are the types of the sites
 abbrev pub global_of : List TypeTree → PackageVariable → ℕ × Value
 global_of types g = (g.site.0, first_value (get_or types g.site.0 ints) g.value)
@@ -187,6 +190,7 @@ program_in types p = record {
   funcs = map (func_of types) p.funcs.items;
   types = types;
   sites = site_types types p.sites.items;
+  taken = addresses_taken p.sites.items;
   strings = map (λ bytes. bytes.items) p.strings.items;
   globals = map (global_of (site_types types p.sites.items)) p.globals.items;
   main = p.main.0;

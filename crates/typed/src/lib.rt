@@ -33,7 +33,9 @@ mod told;
 
 pub use expr::{Bound, Const, Element, Expr, Place, Step, Values};
 pub use fault::TableFault;
-pub use program::{BOOL, Func, INT, PackageVariable, Program, Site};
+pub use program::{
+    BOOL, Func, HeapReason, INT, NameRange, PackageVariable, Program, Site, SiteKind,
+};
 pub use stmt::{Left, Piece, Stmt};
 pub use table::{ProgramTypes, TypeTable};
 pub use typed_syntax::{BinOp, UnOp};

@@ -16,7 +16,7 @@ use Rattle.typed_syntax.specs.Syntax.{Func, Program}
 use Rattle.typed.specs.Formed.{IsFormed}
 use Rattle.typed.specs.Tables.{Table}
 use Rattle.typed.specs.Trees.{trees}
-use Rattle.typed.specs.View.{func_of, first_value, value_of, global_of, site_types, program_in, program_of}
+use Rattle.typed.specs.View.{func_of, first_value, value_of, global_of, site_types, addresses_taken, program_in, program_of}
 use Rattle.typed.specs.declared.program.Func.{Func as FuncData}
 use Rattle.typed.specs.declared.expr.Const.{Const}
 use Rattle.typed.specs.declared.program.PackageVariable.{PackageVariable}
@@ -50,7 +50,7 @@ use Rattle.function_heads.specs.HeadFaults.{first_byte}
 use Rattle.function_heads.proofs.Open.{all_signed, none_open as no_head_open}
 use Rattle.types_go.specs.Functions.{or_zero, begun_at, functions, declarations_in, IsHeads, members, package_scope, main_number, program_functions}
 use Rattle.types_go.specs.FunctionFaults.{FailsInFunctions, RulesFail, IsOpen, FailsWithHeads, FailsIn}
-use Rattle.types_go.specs.Checked.{Types, types_in, sites_types, globals_in, program_with}
+use Rattle.types_go.specs.Checked.{sites_in, Types, types_in, sites_types, globals_in, program_with}
 use Rattle.types_go.specs.Passing.{syntax_with, global_view, IsPassed}
 use Rattle.types_go.proofs.Package.{settled_kept}
 use Rattle.types_go.proofs.OneHeads.{one_heads}
@@ -170,8 +170,7 @@ module _ (t : Syntax) (p : Program) (a : Types t p) (formed : IsFormed a.heads.t
   rules_never f (inr (inl (inl k))) = declarations_sound t h a.is_heads formed block_settled signed (functions_there t h a.is_heads formed a.funcs a.functions).0 f k
   rules_never f (inr (inl (inr (inl k)))) = a.structs_sound f k
   rules_never f (inr (inl (inr (inr k)))) = items_sound t h a.is_heads formed block_settled a.declarations a.no_circle f k
-  rules_never f (inr (inr (inr k))) = a.framed f k
-  rules_never f (inr (inr (inl k))) =
+  rules_never f (inr (inr k)) =
       let s = package_scope t h in
       let all = subst (AllSigned t.text h) (sym (members_functions t.text h 0 (declarations_in t))) signed in
       decided_some (functions t.text h s 0 (members t h)) a.funcs (FailsInFunctions t.text h s 0 (members t h))
@@ -219,7 +218,7 @@ module _ (t : Syntax) (r : Scope) (is : IsHeads t r) (formed : IsFormed r.types)
   functions_given =
       let s = package_scope t r in
       let all = subst (AllSigned t.text r) (sym (members_functions t.text r 0 (declarations_in t))) all_heads in
-      decided_given (functions t.text r s 0 (members t r)) (FailsInFunctions t.text r s 0 (members t r)) (λ f k. no_rule f (inr (inr (inl k))))
+      decided_given (functions t.text r s 0 (members t r)) (FailsInFunctions t.text r s 0 (members t r)) (λ f k. no_rule f (inr (inr k)))
       (functions_decided t.text r s 0 (members t r) all (tree_settled t r is formed told all_heads declared))
 
   main_given : (m : ℕ) × (main_number t r ≡ Some m)
@@ -245,10 +244,10 @@ tree_is x text ds text_is ds_is =
     ap (λ l. syntax_with l x.package (declarations_of ds)) text_is ∙ ap (λ (l : List Decl). syntax_with x.text.items x.package (declarations_of l)) ds_is
 
 pub passed_tree : (x : Tree) (text : List ℕ) (ds : List Decl) → text ≡ x.text.items → ds ≡ x.decls.items → (main : Option ℕ) (fs : Option (List FuncData))
-    (sites : List Site) (T : Table) (strings : List (List ℕ)) (gs : List PackageVariable) (whole : Option Fault)
-    → IsPassed (syntax_with text x.package (declarations_of ds)) main fs sites T strings gs whole → IsPassed (syntax_of x) main fs sites T strings gs whole
-passed_tree x text ds text_is ds_is main fs sites T strings gs whole found =
-    subst (λ (t : Syntax). IsPassed t main fs sites T strings gs whole) (tree_is x text ds text_is ds_is) found
+    (sites : List Site) (ns : List ℕ) (T : Table) (strings : List (List ℕ)) (gs : List PackageVariable) (whole : Option Fault)
+    → IsPassed (syntax_with text x.package (declarations_of ds)) main fs sites ns T strings gs whole → IsPassed (syntax_of x) main fs sites ns T strings gs whole
+passed_tree x text ds text_is ds_is main fs sites ns T strings gs whole found =
+    subst (λ (t : Syntax). IsPassed t main fs sites ns T strings gs whole) (tree_is x text ds text_is ds_is) found
 
 value_begun : (t : TypeTree) (o : Option Const) → first_value t o ≡ or_zero t (option_map value_of o)
 value_begun t None = refl
@@ -261,7 +260,7 @@ globals_begun site_trees (g ∷ gs) =
     ∙ ap (λ l. begun_at site_trees (global_view g) ∷ l) (globals_begun site_trees gs)
 
 module _ (t : Syntax) (p : ProgramData)
-    (found : IsPassed t (Some p.main.0) (Some p.funcs.items) p.sites.items p.types (map (λ (bytes : Vec ℕ). bytes.items) p.strings.items) p.globals.items None) where
+    (found : IsPassed t (Some p.main.0) (Some p.funcs.items) p.sites.items p.names.items p.types (map (λ (bytes : Vec ℕ). bytes.items) p.strings.items) p.globals.items None) where
   abbrev names : Scope
   names = found.heads
 
@@ -275,6 +274,7 @@ module _ (t : Syntax) (p : ProgramData)
         funcs = funcs;
         types = types_in names;
         sites = site_types (types_in names) p.sites.items;
+        taken = addresses_taken p.sites.items;
         strings = map (λ (bytes : Vec ℕ). bytes.items) p.strings.items;
         globals = l;
         main = p.main.0;
@@ -283,6 +283,7 @@ module _ (t : Syntax) (p : ProgramData)
         funcs = funcs;
         types = types_in names;
         sites = site_types (types_in names) l;
+        taken = addresses_taken l;
         strings = map (λ (bytes : Vec ℕ). bytes.items) p.strings.items;
         globals = map (begun_at (site_types (types_in names) l)) (globals_in t names);
         main = p.main.0;
@@ -291,6 +292,7 @@ module _ (t : Syntax) (p : ProgramData)
         funcs = funcs;
         types = types_in names;
         sites = sites_types t names;
+        taken = addresses_taken (sites_in t names);
         strings = l;
         globals = map (begun_at (sites_types t names)) (globals_in t names);
         main = p.main.0;
@@ -304,7 +306,6 @@ module _ (t : Syntax) (p : ProgramData)
     main = p.main.0;
     functions = all_functions t names found.is_heads found.formed found.least funcs (sym found.funcs_are);
     main_is = sym found.main_is;
-    framed = λ f k. found.least f (inl (inr (inr (inr k))));
     structs = told t names found.is_heads found.formed found.least;
     structs_sound = λ f k. found.least f (inl (inr (inl (inr (inl k)))));
     declarations = declared t names found.is_heads found.formed found.least;
@@ -313,8 +314,8 @@ module _ (t : Syntax) (p : ProgramData)
   }
 
 -- where it has found no fault, it has found all functions and `main`
-module _ (t : Syntax) (main : Option ℕ) (fs : Option (List FuncData)) (sites : List Site) (T : Table) (strings : List (List ℕ)) (gs : List PackageVariable)
-    (whole : Option Fault) (found : IsPassed t main fs sites T strings gs whole) (whole_is : whole ≡ None) where
+module _ (t : Syntax) (main : Option ℕ) (fs : Option (List FuncData)) (sites : List Site) (ns : List ℕ) (T : Table) (strings : List (List ℕ)) (gs : List PackageVariable)
+    (whole : Option Fault) (found : IsPassed t main fs sites ns T strings gs whole) (whole_is : whole ≡ None) where
   none_least : IsLeast (FailsWithHeads t found.heads) None
   none_least = subst (IsLeast (FailsWithHeads t found.heads)) whole_is found.least
 
@@ -330,13 +331,13 @@ module _ (t : Syntax) (main : Option ℕ) (fs : Option (List FuncData)) (sites :
 -- where it has found no fault, these are `main` and the functions
 pub where_found : (t : Syntax) (p : ProgramData) (main : Option FuncId) (fs : Option (Vec FuncData)) (whole : Option Fault) → main ≡ Some p.main → fs ≡ Some p.funcs
     → whole ≡ None
-    → IsPassed t (option_map (λ (f : FuncId). f.0) main) (option_map (λ (v : Vec FuncData). v.items) fs) p.sites.items p.types
+    → IsPassed t (option_map (λ (f : FuncId). f.0) main) (option_map (λ (v : Vec FuncData). v.items) fs) p.sites.items p.names.items p.types
     (map (λ (bytes : Vec ℕ). bytes.items) p.strings.items) p.globals.items whole
-    → IsPassed t (Some p.main.0) (Some p.funcs.items) p.sites.items p.types (map (λ (bytes : Vec ℕ). bytes.items) p.strings.items) p.globals.items None
+    → IsPassed t (Some p.main.0) (Some p.funcs.items) p.sites.items p.names.items p.types (map (λ (bytes : Vec ℕ). bytes.items) p.strings.items) p.globals.items None
 where_found t p main fs whole main_is fs_is whole_is found =
     let strings = map (λ (bytes : Vec ℕ). bytes.items) p.strings.items in
     let gs = p.globals.items in
-    subst (λ (o : Option Fault). IsPassed t (Some p.main.0) (Some p.funcs.items) p.sites.items p.types strings gs o) whole_is
-    (subst (λ (o : Option (Vec FuncData)). IsPassed t (Some p.main.0) (option_map (λ (v : Vec FuncData). v.items) o) p.sites.items p.types strings gs whole) fs_is
-    (subst (λ (o : Option FuncId). IsPassed t (option_map (λ (f : FuncId). f.0) o) (option_map (λ (v : Vec FuncData). v.items) fs) p.sites.items p.types strings gs whole)
+    subst (λ (o : Option Fault). IsPassed t (Some p.main.0) (Some p.funcs.items) p.sites.items p.names.items p.types strings gs o) whole_is
+    (subst (λ (o : Option (Vec FuncData)). IsPassed t (Some p.main.0) (option_map (λ (v : Vec FuncData). v.items) o) p.sites.items p.names.items p.types strings gs whole) fs_is
+    (subst (λ (o : Option FuncId). IsPassed t (option_map (λ (f : FuncId). f.0) o) (option_map (λ (v : Vec FuncData). v.items) fs) p.sites.items p.names.items p.types strings gs whole)
     main_is found))

@@ -24,7 +24,7 @@ use Rattle.constants.specs.Constants.{is_int}
 use Rattle.type_faults.proofs.Options.{and_then_some, map_some, none_some, same_some}
 use Rattle.names.specs.Universe.{is_blank}
 use Rattle.names.specs.declared.scope.Known.{Known}
-use Rattle.names.specs.Scope.{Scope, type_number, type_tree, known, with_site}
+use Rattle.names.specs.Scope.{Scope, type_tree, known, site_at, with_site}
 use Rattle.names.proofs.Trees.{int_tree, bool_tree}
 use Rattle.package_values.specs.declared.items.Role.TheVariants as role
 use Rattle.package_values.specs.Values.{Item, items_in_specs}
@@ -141,7 +141,7 @@ module _ (text : List ℕ) (heads : Scope) where
       let later = global_at s1 ms g k is in
       (later.0, later.1, subst (λ (q : Package). TypedAt q (behind_members text heads s1 ms).sites later.0.0 k) (keeps_function text heads s h).kept later.2)
   global_at s (of_variable v x ∷ ms) g k is =
-      by (λ j is1. global_at s ms j k is1) (λ j is1. global_at (with_site s (type_or_int (known s v)) x.name.pos) ms j k is1) (is_blank (spelled text x.name)) g is
+      by (λ j is1. global_at s ms j k is1) (λ j is1. global_at (with_site s s.setting (spelled text x.name) (type_or_int (known s v)) x.name.pos) ms j k is1) (is_blank (spelled text x.name)) g is
     where
       c : Option Fixed
       c = initial text s x.value
@@ -150,7 +150,7 @@ module _ (text : List ℕ) (heads : Scope) where
       t = type_or_int (known s v)
 
       s1 : Scope
-      s1 = with_site s t x.name.pos
+      s1 = with_site s s.setting (spelled text x.name) t x.name.pos
 
       Found : Scope → ℕ → Type 0
       Found u j = (entry : ℕ × Option Value) × (slice_get (globals text heads u ms) j ≡ Some entry) × TypedAt (package_of s) (behind_members text heads u ms).sites entry.0 k
@@ -164,7 +164,7 @@ module _ (text : List ℕ) (heads : Scope) where
         (length s.sites, begins t c),
         refl,
         subst (λ (m : ℕ). TypedAt (package_of s) (behind_members text heads s1 ms).sites (length s.sites) m) (same_some is1)
-            (has_longer s.types s1.sites (behind_members text heads s1 ms).sites (length s.sites) t (keeps_members text heads s1 ms).sites (new_site s t x.name.pos)),
+            (has_longer s.types s1.sites (behind_members text heads s1 ms).sites (length s.sites) t (keeps_members text heads s1 ms).sites (new_site s s.setting (spelled text x.name) t x.name.pos)),
       )
       by same later false (suc j) is1 = later j is1
 
@@ -180,7 +180,7 @@ module _ (text : List ℕ) (heads : Scope) where
       let long = extends_length s.sites s1.sites (keeps_function text heads s h).sites in
       (omega (arith, later.0, long), subst (λ (q : Package). Begins q (behind_members text heads s1 ms).sites entry) (keeps_function text heads s h).kept later.1)
   global_begins s (of_variable v x ∷ ms) j entry is =
-      by (λ n is1. global_begins s ms n entry is1) (λ n is1. global_begins (with_site s (type_or_int (known s v)) x.name.pos) ms n entry is1) (is_blank (spelled text x.name)) j is
+      by (λ n is1. global_begins s ms n entry is1) (λ n is1. global_begins (with_site s s.setting (spelled text x.name) (type_or_int (known s v)) x.name.pos) ms n entry is1) (is_blank (spelled text x.name)) j is
     where
       c : Option Fixed
       c = initial text s x.value
@@ -189,7 +189,7 @@ module _ (text : List ℕ) (heads : Scope) where
       t = type_or_int (known s v)
 
       s1 : Scope
-      s1 = with_site s t x.name.pos
+      s1 = with_site s s.setting (spelled text x.name) t x.name.pos
 
       Begun : Scope → Type 0
       Begun u = (n : ℕ) → slice_get (globals text heads u ms) n ≡ Some entry → (length u.sites ≤ entry.0) × Begins (package_of s) (behind_members text heads u ms).sites entry
@@ -200,10 +200,10 @@ module _ (text : List ℕ) (heads : Scope) where
       by same others false zero is1 =
           let e : (length s.sites, begins t c) ≡ entry = same_some is1 in
           subst (λ (y : ℕ × Option Value). (length s.sites ≤ y.0) × Begins (package_of s) (behind_members text heads s1 ms).sites y) e
-          (omega arith, (v, (c, (has_longer s.types s1.sites (behind_members text heads s1 ms).sites (length s.sites) t (keeps_members text heads s1 ms).sites (new_site s t x.name.pos), refl))))
+          (omega arith, (v, (c, (has_longer s.types s1.sites (behind_members text heads s1 ms).sites (length s.sites) t (keeps_members text heads s1 ms).sites (new_site s s.setting (spelled text x.name) t x.name.pos), refl))))
       by same others false (suc n) is1 =
           let later = others n is1 in
-          let long = length-append s.sites (record { pos = x.name.pos; type_id = record { 0 = type_number s.types t } } ∷ []) in
+          let long = length-append s.sites (site_at s.setting s.types (length s.site_names) (spelled text x.name) t x.name.pos ∷ []) in
           (omega (arith, later.0, long), later.1)
 
   -- ---- its site is none of a function
@@ -259,7 +259,7 @@ module _ (text : List ℕ) (heads : Scope) where
       let behind1 = (global_begins s1 ms j entry at).0 in
       subst (λ (l : List Func). Apart entry.0 l) q.2 (one_apart entry.0 r.0 q.0 (omega (arith, own.1, behind1)) (globals_apart s1 (1 + i) ms q.0 q.1 j entry at))
   globals_apart s i (of_variable v x ∷ ms) fs is j entry at =
-      by (λ n is1 at1. globals_apart s i ms fs is1 n entry at1) (λ n is1 at1. globals_apart (with_site s (type_or_int (known s v)) x.name.pos) i ms fs is1 n entry at1) (is_blank (spelled text x.name)) j is at
+      by (λ n is1 at1. globals_apart s i ms fs is1 n entry at1) (λ n is1 at1. globals_apart (with_site s s.setting (spelled text x.name) (type_or_int (known s v)) x.name.pos) i ms fs is1 n entry at1) (is_blank (spelled text x.name)) j is at
     where
       c : Option Fixed
       c = initial text s x.value
@@ -268,7 +268,7 @@ module _ (text : List ℕ) (heads : Scope) where
       t = type_or_int (known s v)
 
       s1 : Scope
-      s1 = with_site s t x.name.pos
+      s1 = with_site s s.setting (spelled text x.name) t x.name.pos
 
       Lies : Scope → Type 0
       Lies u = (n : ℕ) → functions text heads u i ms ≡ Some fs → slice_get (globals text heads u ms) n ≡ Some entry → Apart entry.0 fs
@@ -279,7 +279,7 @@ module _ (text : List ℕ) (heads : Scope) where
       by same others false zero is1 at1 =
           λ k f found.
           let e : length s.sites ≡ entry.0 = ap (λ (y : ℕ × Option Value). y.0) (same_some at1) in
-          let long = length-append s.sites (record { pos = x.name.pos; type_id = record { 0 = type_number s.types t } } ∷ []) in
+          let long = length-append s.sites (site_at s.setting s.types (length s.site_names) (spelled text x.name) t x.name.pos ∷ []) in
           let first1 = firsts_behind s1 i ms fs is1 k f found in
           inl (omega (arith, e, long, first1))
       by same others false (suc n) is1 at1 = others n is1 at1

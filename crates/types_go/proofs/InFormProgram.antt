@@ -19,33 +19,36 @@ use Rattle.typed_syntax.specs.Types.{TypeTree, ints, width}
 use Rattle.base.specs.declared.value_type.ValueType.{ValueType}
 use Rattle.type_faults.proofs.Options.{and_then_some, map_some, none_some, same_some}
 use Rattle.names.specs.Universe.{is_blank, is_main}
-use Rattle.names.specs.Scope.{Scope, Signature, type_tree, type_trees, declaration, is_here, opened}
+use Rattle.names.specs.Scope.{Scope, Signature, type_tree, type_trees, declaration, is_here, declaring}
 use Rattle.names.proofs.Trees.{solid}
 use Rattle.given_values.specs.declared.wants.Wanted.TheVariants as wants
 use Rattle.given_values.specs.Given.{wanted_by, asked}
+use Rattle.given_values.proofs.NoSlices.{HoldsNoSlice}
 use Rattle.package_values.specs.Values.{items_in, settled}
 use Rattle.signatures.specs.declared.slots.Slot.{Slot}
 use Rattle.signatures.specs.declared.entries.Role.{Role}
 use Rattle.signatures.specs.declared.entries.Role.TheVariants.{Parameter, Result}
-use Rattle.signatures.specs.Entries.{entry_of, sites_of, entry_in, behind_entry, entries}
+use Rattle.signatures.specs.Entries.{entry_of, sites_of, entry_in, behind_entry, entries, behind_entries}
 use Rattle.signatures.specs.Signatures.{Param, param_with, unnamed_params, named_params, params_of, is_named, words, is_small, types_of, may_be_named}
 use Rattle.function_heads.specs.HeadTypes.{slot_of, slots_of, signature_in}
-use Rattle.signatures.proofs.Growth.{Package, package_of, extends_twice, keeps_grows, grows_entries}
-use Rattle.signatures.proofs.Visible.{Visible, visible_block, visible_opened, visible_kept}
+use Rattle.typed.specs.declared.program.SiteKind.TheVariants as kind
+use Rattle.signatures.proofs.Growth.{Package, package_of, extends_twice, keeps_grows}
+use Rattle.signatures.proofs.Visible.{Visible, visible_set, visible_block, visible_opened, visible_kept}
 use Rattle.signatures.proofs.InFormEntries.{HasSites, Within, within_before, SlotsHave, sites_long, named_of_params, named_scope_of, variable_is, entries_fit}
 use Rattle.simple_statements.proofs.InFormSimple.{ReturnsFit}
 use Rattle.terminating.specs.Terminating.{ends_after}
 use Rattle.types_go.specs.Statements.{behind_all}
 use Rattle.function_heads.specs.Heads.{is_plain, number_of, plain_number, number_or_int, slot_tree, functions_in, are_supported}
-use Rattle.types_go.specs.Functions.{Member, of_function, of_variable, functions_of, behind_variable, members_in, behind_params, body_scope, behind_body, behind_function, behind_members, returns_of, func, function, functions, declarations_in, block_with, numbered_functions, members, package_scope, main_number}
+use Rattle.types_go.specs.Functions.{Member, of_function, of_variable, functions_of, behind_variable, members_in, declares, params_opened, behind_params, body_scope, behind_body, behind_function, behind_members, returns_of, func, function, functions, declarations_in, block_with, numbered_functions, members, package_scope, main_number}
 use Rattle.types_go.specs.Checked.{Types, program_with}
 use Rattle.types_go.proofs.SettledFunctions.{allowed_some, signature_parts, small_signed, function_some}
 use Rattle.types_go.proofs.SettledPackage.{block, members_functions}
 use Rattle.types_go.proofs.Package.{signatures_are, globals_are, settled_kept}
 use Rattle.types_go.proofs.Types.{block_types}
 use Rattle.types_go.proofs.StatementGrowth.{grows_all}
-use Rattle.types_go.proofs.Growth.{keeps_function, keeps_variable, keeps_members, grows_body}
+use Rattle.types_go.proofs.Growth.{keeps_function, keeps_variable, keeps_members, grows_params, grows_results, grows_body}
 use Rattle.types_go.proofs.Visible.{visible_package}
+use Rattle.types_go.proofs.NoSlices.{heads_none}
 use Rattle.types_go.proofs.InFormStatements.{AreSigned, AreGlobals, formed_all}
 use Rattle.types_go.proofs.InFormGlobals.{member_numbers, members_numbers, globals_agree, globals_fit}
 use Rattle.types_go.proofs.Inside.{inside_start, inside_grows}
@@ -237,7 +240,7 @@ module _ (text : List ℕ) (heads : Scope) where
     no_values = λ is. ap (λ l. length (sites_of l)) (empty_list rs (long ∙ (sym (trees_long g.results) ∙ ap length is)));
   }
 
-  module _ (p : Program) (all : List Site) (has : HasSites heads.types p all) (formed : IsFormed heads.types) (own : Package) (own_types : own.types ≡ heads.types) (agrees : AreSigned heads.types own.signatures p.funcs) (numbered : AreGlobals heads.types own p) where
+  module _ (p : Program) (all : List Site) (has : HasSites heads.types p all) (formed : IsFormed heads.types) (no_slice : HoldsNoSlice heads.types) (own : Package) (own_types : own.types ≡ heads.types) (agrees : AreSigned heads.types own.signatures p.funcs) (numbered : AreGlobals heads.types own p) where
     function_fits : (s : Scope) (i : ℕ) (g : TreeFunction) (t : Func) → Visible s [] → package_of s ≡ own → Within p all (behind_function text heads s g) → function text heads s i g ≡ Some t → FuncFits p t
     function_fits s i g t visible signed ext0 is =
         let found = function_some text heads s i g t is in
@@ -250,18 +253,20 @@ module _ (text : List ℕ) (heads : Scope) where
         let types = signature_parts text heads g (small_signed heads.types (signature_in text heads g) k.1) in
         let have_params = slots_have (slots_of text heads g.params) types.0 types.2 in
         let have_results = slots_have (slots_of text heads g.results) types.1 types.3 in
+        let behind1 = behind_entries text (params_opened s) (slots_of text heads g.params) in
+        let behind2 = behind_entries text (behind_params text heads s g) (slots_of text heads g.results) in
         let inner = body_scope text heads s g in
         let last1 = behind_all text inner b.statements in
         let ext : Within p all last1 = subst (λ (o : Option Body). Within p all (behind_body text heads s g o)) found.1.0 ext0 in
         let ext_inner = extends_twice inner.sites last1.sites all (grows_all text inner b.statements).sites ext.0 in
-        let ext_params = extends_twice (behind_params text heads s g).sites inner.sites all (grows_entries text (behind_params text heads s g) (slots_of text heads g.results)).sites ext_inner in
+        let ext_params = extends_twice (behind_params text heads s g).sites inner.sites all (grows_results text heads s g).sites ext_inner in
         let types_are : s.types ≡ heads.types = ap (λ (q : Package). q.types) signed ∙ own_types in
-        let params_types : (behind_params text heads s g).types ≡ heads.types = ap (λ (q : Package). q.types) (grows_entries text (opened s) (slots_of text heads g.params)).kept ∙ types_are in
-        let one1 = entries_fit heads.types text p all has Parameter (opened s) [] (slots_of text heads g.params) types.0 ps types_are (visible_opened s [] visible) have_params k.3.3 ext_params in
-        let two1 = entries_fit heads.types text p all has Result (behind_params text heads s g) (params_scope [] ps) (slots_of text heads g.results) types.1 rs params_types one1.visible have_results k.3.4 ext_inner in
+        let params_types : (behind_params text heads s g).types ≡ heads.types = ap (λ (q : Package). q.types) (grows_params text heads s g).kept ∙ types_are in
+        let one1 = entries_fit heads.types text p all has Parameter (params_opened s) [] (slots_of text heads g.params) types.0 ps types_are (visible_opened (declares kind.Parameter s) [] (visible_set s [] (declaring kind.Parameter s.setting) visible)) have_params k.3.3 ext_params in
+        let two1 = entries_fit heads.types text p all has Result (behind_params text heads s g) (params_scope [] ps) (slots_of text heads g.results) types.1 rs params_types (visible_set behind1 (params_scope [] ps) (declaring kind.Result behind1.setting) one1.visible) have_results k.3.4 ext_inner in
         let long : length rs ≡ length (params_of g.results) = two1.long ∙ slots_long g.results in
         let goes = returns_fit (behind_params text heads s g) g types.1 rs have_results k.3.4 long in
-        let lines = formed_all heads.types text p all has formed own own_types agrees numbered (returns_of text heads g) results1 (length (sites_of rs)) goes false inner (params_scope (params_scope [] ps) rs) b.statements body two1.visible ((grows_body text heads s g).kept ∙ signed) ext k.3.5 in
+        let lines = formed_all heads.types text p all has formed no_slice own own_types agrees numbered (returns_of text heads g) results1 (length (sites_of rs)) goes false inner (params_scope (params_scope [] ps) rs) b.statements body (visible_set behind2 (params_scope (params_scope [] ps) rs) (declaring kind.Variable behind2.setting) two1.visible) ((grows_body text heads s g).kept ∙ signed) ext k.3.5 in
         let t0 = func text heads s g b ps rs body in
         let named_long = sites_long rs in
         let param_types_are = trees_are heads.types (slots_of text heads g.params) types.0 have_params in
@@ -279,7 +284,7 @@ module _ (text : List ℕ) (heads : Scope) where
           body = subst (λ n. StsFit p results1 (length (sites_of rs)) false (scope_in t0) (body_first t0) n body) (sym whole)
               (subst (λ m. StsFit p results1 (length (sites_of rs)) false (scope_in t0) m (length last1.sites) body) (sym body_is)
               (subst (λ (l : List ℕ). StsFit p results1 (length (sites_of rs)) false l (length inner.sites) (length last1.sites) body) (named_scope_of (params_scope [] ps) rs) statements1));
-          end = finish b body results1 (length (params_of g.results) == 0) refl k.2 (λ ending. sym (ends_same body) ∙ ends_list text (returns_of text heads g) s false inner (inside_grows s (opened s) inner (inside_start s) (grows_body text heads s g)) b.statements body k.3.5 false ending) (trees_long g.results);
+          end = finish b body results1 (length (params_of g.results) == 0) refl k.2 (λ ending. sym (ends_same body) ∙ ends_list text (returns_of text heads g) s false inner (inside_grows s (params_opened s) inner (inside_start s (declaring kind.Parameter s.setting)) (grows_body text heads s g)) b.statements body k.3.5 false ending) (trees_long g.results);
           small = small_words g k.1;
         })
       where
@@ -304,7 +309,7 @@ module _ (text : List ℕ) (heads : Scope) where
       let later = function_at (behind_function text heads s h) (1 + i) ms q.0 q.1 k g found in
       (later.0, (later.1.0, (later.1.1.0, (ap (λ (l : List Func). slice_get l (suc k)) (sym q.2) ∙ later.1.1.1.0, later.1.1.1.1))))
 
-  module _ (p : Program) (all : List Site) (has : HasSites heads.types p all) (formed : IsFormed heads.types) (own : Package) (own_types : own.types ≡ heads.types) (agrees : AreSigned heads.types own.signatures p.funcs) (numbered : AreGlobals heads.types own p) where
+  module _ (p : Program) (all : List Site) (has : HasSites heads.types p all) (formed : IsFormed heads.types) (no_slice : HoldsNoSlice heads.types) (own : Package) (own_types : own.types ≡ heads.types) (agrees : AreSigned heads.types own.signatures p.funcs) (numbered : AreGlobals heads.types own p) where
     all_fit : (s : Scope) (i : ℕ) (ms : List Member) (ts : List Func) → Visible s [] → package_of s ≡ own → Within p all (behind_members text heads s ms) → functions text heads s i ms ≡ Some ts → (k : ℕ) (t : Func) → slice_get ts k ≡ Some t → FuncFits p t
     all_fit s i [] ts visible signed ext is k t found = absurd (none_some (subst (λ (l : List Func). slice_get l k ≡ Some t) (sym (same_some is)) found))
     all_fit s i (of_variable v x ∷ ms) ts visible signed ext is k t found =
@@ -316,7 +321,7 @@ module _ (text : List ℕ) (heads : Scope) where
         let q = map_some (λ us. r.0 ∷ us) (functions text heads s1 (1 + i) ms) ts r.2 in
         let keeps = keeps_function text heads s h in
         let ext1 = within_before p all s1 (behind_members text heads s1 ms) (keeps_grows s1 (behind_members text heads s1 ms) (keeps_members text heads s1 ms)) ext in
-        by k r.0 q.0 (function_fits p all has formed own own_types agrees numbered s i h r.0 visible signed ext1 r.1)
+        by k r.0 q.0 (function_fits p all has formed no_slice own own_types agrees numbered s i h r.0 visible signed ext1 r.1)
         (λ j found1. all_fit s1 (1 + i) ms q.0 (visible_kept s s1 [] visible keeps) (keeps.kept ∙ signed) ext q.1 j t found1)
         (subst (λ (l : List Func). slice_get l k ≡ Some t) (sym q.2) found)
       where
@@ -400,7 +405,7 @@ main_some t h m is = by (is_main (spelled t.text t.file.package_name)) is
 plain_function : (text : List ℕ) (heads s : Scope) (i : ℕ) (g : TreeFunction) (t : Func) → function text heads s i g ≡ Some t → length (params_of g.params) ≡ 0 → length (params_of g.results) ≡ 0 → (t.params ≡ []) × ((t.results ≡ []) × (t.named ≡ []))
 plain_function text heads s i g t is no_params no_results =
     let p = (function_some text heads s i g t is).1.1 in
-    let ps : p.3.0 ≡ [] = empty_list p.3.0 (entries_long text heads Parameter (opened s) (slots_of text heads g.params) p.3.0 p.3.3 ∙ slots_long text heads g.params ∙ no_params) in
+    let ps : p.3.0 ≡ [] = empty_list p.3.0 (entries_long text heads Parameter (params_opened s) (slots_of text heads g.params) p.3.0 p.3.3 ∙ slots_long text heads g.params ∙ no_params) in
     let rs : p.3.1 ≡ [] = empty_list p.3.1 (entries_long text heads Result (behind_params text heads s g) (slots_of text heads g.results) p.3.1 p.3.4 ∙ slots_long text heads g.results ∙ no_results) in (
       ap (λ (x : Func). x.params) (sym p.3.6) ∙ ps,
       (empty_list t.results (results_long text heads s i g t is ∙ no_results), ap (λ (x : Func). x.named) (sym p.3.6) ∙ ap sites_of rs),
@@ -431,7 +436,7 @@ in_form t p a formed =
     let within : Within p0 all last1 = (([], sym (append-nil all)), omega arith) in
     subst IsInForm (sym a.is)
     (record {
-      fits = λ k f got. all_fit t.text h p0 all has formed (package_of s) own_types agrees numbered1 s 0 gs a.funcs visible refl within found k f got;
+      fits = λ k f got. all_fit t.text h p0 all has formed (heads_none t h a.is_heads) (package_of s) own_types agrees numbered1 s 0 gs a.funcs visible refl within found k f got;
       few = few;
       main = (at.1.1.0, at.1.1.1.0, plain.0, plain.1.0, plain.1.1);
       solid = λ site. sites_solid h.types formed all site;

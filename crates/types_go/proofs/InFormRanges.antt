@@ -23,7 +23,7 @@ use Rattle.type_faults.proofs.Options.{and_then_some, map_some, none_some, same_
 use Rattle.operators.specs.Operands.{type_of, as_value}
 use Rattle.names.specs.declared.scope.Declared.{Declared}
 use Rattle.names.specs.declared.scope.Declared.TheVariants as declared
-use Rattle.names.specs.Scope.{Scope, type_number, type_tree, type_trees, with_site, opened}
+use Rattle.names.specs.Scope.{Scope, type_number, type_tree, type_trees, site_at, of_copy, with_site, opened}
 use Rattle.names.specs.Types.{is_known}
 use Rattle.names.proofs.Trees.{int_tree, solid}
 use Rattle.operand_calls.specs.Calls.{has_call}
@@ -387,21 +387,21 @@ module _ (T : Table) (text : List ℕ) (p : Program) (all : List Site) (has : Ha
             })
 
     -- its elements: the copy comes behind the new variables
-    elements_fit : (looped : Bool) (h : Scope) (at : Pos) (t : ValueType) (a : ArrayType) (x : Ex) (q : Sides) (r : Range) → IsUsed q.value → h.types ≡ T → Extends (with_site h t at).sites all → type_tree T t ≡ array_of a.length (type_tree T a.element) → a.length < 2 ^ 63
-        → ExFits p scope (type_tree T t) x → SidesFit T text p all has s types_are (length h.sites ∷ scope) h Int a.element q → range_with (length h.sites) (array t a) x q ≡ Some r → RangeFits looped s scope (with_site h t at) r
+    elements_fit : (looped : Bool) (h : Scope) (at : Pos) (t : ValueType) (a : ArrayType) (x : Ex) (q : Sides) (r : Range) → IsUsed q.value → h.types ≡ T → Extends (with_site h (of_copy h.setting) [] t at).sites all → type_tree T t ≡ array_of a.length (type_tree T a.element) → a.length < 2 ^ 63
+        → ExFits p scope (type_tree T t) x → SidesFit T text p all has s types_are (length h.sites ∷ scope) h Int a.element q → range_with (length h.sites) (array t a) x q ≡ Some r → RangeFits looped s scope (with_site h (of_copy h.setting) [] t at) r
     elements_fit looped h at t a x q r used h_types ext tree small over1 sides is = by q.key q.value used sides is
       where
         site : ℕ
         site = length h.sites
 
         after : Scope
-        after = with_site h t at
+        after = with_site h (of_copy h.setting) [] t at
 
         longer : length after.sites ≡ length h.sites + 1
-        longer = length-append h.sites (record { pos = at; type_id = record { 0 = type_number h.types t } } ∷ [])
+        longer = length-append h.sites (site_at (of_copy h.setting) h.types (length h.site_names) [] t at ∷ [])
 
         copy_is : site_type p site ≡ array_of a.length (type_tree T a.element)
-        copy_is = site_shown T p all has after h_types ext site t (new_site h t at) ∙ tree
+        copy_is = site_shown T p all has after h_types ext site t (new_site h (of_copy h.setting) [] t at) ∙ tree
 
         whole : ExFits p scope (array_of a.length (type_tree T a.element)) x
         whole = subst (λ (u : TypeTree). ExFits p scope u x) tree over1
@@ -477,8 +477,8 @@ module _ (T : Table) (text : List ℕ) (p : Program) (all : List Site) (has : Ha
             used_value v used sides_are range_is1 =
                 let q : Sides = record { key = c.sides.key; value = v } in
                 let some1 : copied (Some (array u a)) (target_count text (opened s) t) ≡ Some u = ap (copied (Some (array u a))) with_count ∙ ap (λ b. cond b None (Some u)) (used_counted c.lefts q used sides_are) in
-                let ext2 : Extends (with_site h u at).sites all = subst (λ (o : Option ValueType). Extends (behind_copy h o at).sites all) some1 ext1 in
-                let ext3 : Extends h.sites all = extends_twice h.sites (with_site h u at).sites all (_, refl) ext2 in
+                let ext2 : Extends (with_site h (of_copy h.setting) [] u at).sites all = subst (λ (o : Option ValueType). Extends (behind_copy h o at).sites all) some1 ext1 in
+                let ext3 : Extends h.sites all = extends_twice h.sites (with_site h (of_copy h.setting) [] u at).sites all (_, refl) ext2 in
                 let o = over_fits e (array u a) c.value (outside (array u a) ext3) ranged_is c.value_is in
                 let array1 = array_is T formed o.own u a o.kind in
                 let fit1 : ExFits p scope (type_tree T u) c.value = subst (λ (w : ValueType). ExFits p scope (type_tree T w) c.value) array1.same o.fit in

@@ -14,20 +14,21 @@ use Rattle.typed_syntax.specs.Form.{births, births_all, scope_after, StFits, Sts
 use Rattle.type_faults.specs.Given.{allowed}
 use Rattle.type_faults.proofs.Options.{and_then_some, map_some, same_some}
 use Rattle.names.specs.declared.scope.Known.{Known}
-use Rattle.names.specs.Scope.{Scope, Signature, type_tree, type_trees, opened, closed}
+use Rattle.names.specs.Scope.{Scope, Signature, type_tree, type_trees, in_header, in_body, with_setting, opened, closed}
 use Rattle.given_values.specs.Given.{known_type}
 use Rattle.expression_types.specs.Typing.{seen}
 use Rattle.given_values.proofs.ValuesFit.{Agrees}
+use Rattle.given_values.proofs.NoSlices.{HoldsNoSlice}
 use Rattle.signatures.proofs.Growth.{Extends, Package, package_of, extends_twice, Keeps, keeps_grows, grows_entries}
-use Rattle.signatures.proofs.Visible.{Visible, visible_opened, visible_kept, got_longer}
+use Rattle.signatures.proofs.Visible.{Visible, visible_set, visible_opened, visible_kept, got_longer}
 use Rattle.signatures.proofs.InFormEntries.{HasSites, Within, within_before, get_mapped}
 use Rattle.simple_statements.specs.SimpleStatements.{Returns, spec_slots, before, returned, simple_statement, spec_statement, spec_statements, behind_spec, behind_specs}
 use Rattle.simple_statements.proofs.SettledValues.{allowed_is}
 use Rattle.simple_statements.proofs.Growth.{grows_specs}
 use Rattle.simple_statements.proofs.InFormSimple.{ReturnsFit, simple_formed, return_formed}
-use Rattle.types_go.specs.Statements.{Choice, chosen, alone, header, guard_head, clause_scope, clause_head, choice_of, loop_of, behind, behind_else, behind_all, statement, alternative, statements}
+use Rattle.types_go.specs.Statements.{Choice, chosen, alone, header, guard_head, clause_scope, clause_head, choice_of, loop_of, carries, looping, behind_loop, behind, behind_else, behind_all, statement, alternative, statements}
 use Rattle.types_go.proofs.SettledStatements.{choice_some, loop_some}
-use Rattle.types_go.proofs.StatementGrowth.{grows_header, grows_clause, keeps_block, keeps_else, keeps_choice, keeps_loop, grows, grows_all}
+use Rattle.types_go.proofs.StatementGrowth.{grows_header, grows_clause, keeps_block, keeps_else, keeps_choice, keeps_loop, keeps_loop_body, grows, grows_all}
 use Rattle.types_go.proofs.InFormHeads.{Formed1, StsFormed, init_scope, head_scope, head_visible, guard_fits, choice_formed, clause_fits, loop_formed, loop_keeps, spec_formed}
 
 -- the functions of a program have the parameters and results that these signatures say
@@ -55,7 +56,7 @@ module _ (p : Program) (wanted1 : List TypeTree) (named : ℕ) where
       let e : m + births_all (next t a) ≡ (m + births t) + births_all a = omega arith in
       (fa.0, before_fits looped (scope_after scope t) (m + births t) n a b fa.1 (subst (λ j. StsFit p wanted1 named looped (scope_behind_all (scope_after scope t) a) j n b) e fb))
 
-module _ (T : Table) (text : List ℕ) (p : Program) (all : List Site) (has : HasSites T p all) (table_formed : IsFormed T) (own : Package) (own_types : own.types ≡ T) (signed : AreSigned T own.signatures p.funcs) (numbered : AreGlobals T own p) where
+module _ (T : Table) (text : List ℕ) (p : Program) (all : List Site) (has : HasSites T p all) (table_formed : IsFormed T) (no_slice : HoldsNoSlice T) (own : Package) (own_types : own.types ≡ T) (signed : AreSigned T own.signatures p.funcs) (numbered : AreGlobals T own p) where
   -- a scope of the package has its table
   typed : (s : Scope) → package_of s ≡ own → s.types ≡ T
   typed s g = ap (λ (q : Package). q.types) g ∙ own_types
@@ -74,6 +75,7 @@ module _ (T : Table) (text : List ℕ) (p : Program) (all : List Site) (has : Ha
         (numbered j k f (ap (λ (q : Package). slice_get q.globals j) (sym g) ∙ at) (ap (λ (q : Package). option_and_then (λ o. o) (slice_get q.values k)) (sym g) ∙ known));
     types = types_of s g;
     formed = subst IsFormed (sym (typed s g)) table_formed;
+    no_slice = subst HoldsNoSlice (sym (typed s g)) no_slice;
   }
     where
       types_of : (r1 : Scope) → package_of r1 ≡ own → p.types ≡ trees r1.types
@@ -165,19 +167,23 @@ module _ (T : Table) (text : List ℕ) (p : Program) (all : List Site) (has : Ha
           (λ sc sv se. formed_else looped inner sc rest q.2 sv ((keeps_block text h body).kept ∙ ((grows_header text s g1.init).kept ∙ g)) se q.5) in
           subst (λ (x : Sts). Whole looped s scope (closed last1) x) u.2 (kept looped s (closed last1) scope u.0 v (keeps_choice text s g1 body rest) f.0 f.1)
       formed looped s scope (tree.for_stmt at c body) b v g ext is =
-          let h = clause_scope text s c in
-          let inner = closed (behind_all text (opened h) body) in
-          let u = map_some alone (loop_of (clause_head text s c) (statements text r true (opened h) body)) b is in
-          let q = loop_some (clause_head text s c) (statements text r true (opened h) body) u.0 u.1 in
-          let grow = grows_clause text s c in
-          let ext1 = within_before p all h inner (keeps_grows h inner (keeps_block text h body)) ext in
-          let fits = clause_fits T text p all has wanted1 named s scope v (typed s g) table_formed (λ r1 same1 e. agreed r1 (same1 ∙ g) e) looped c q.0 q.2 ext1 in
-          let shows = head_visible T text p all has wanted1 named s scope v (typed s g) table_formed (λ r1 same1 e. agreed r1 (same1 ∙ g) e) looped h q.0 fits in
-          let a = formed_all true (opened h) (head_scope T text p all has wanted1 named s scope v (typed s g) table_formed (λ r1 same1 e. agreed r1 (same1 ∙ g) e) q.0) body q.1 (visible_opened h _ shows) (grow.kept ∙ g) ext q.3 in
-          let whole = loop_formed T text p all has wanted1 named s scope v (typed s g) table_formed (λ r1 same1 e. agreed r1 (same1 ∙ g) e) looped h (closed inner) q.0 q.1 fits (record { count = a.count; fit = a.fit }) in
-          let keeps = loop_keeps T text p all has wanted1 named s scope v (typed s g) table_formed (λ r1 same1 e. agreed r1 (same1 ∙ g) e) looped h q.0 q.1 fits in
-          subst (λ (x : Sts). Whole looped s scope (closed inner) x) u.2
-          (kept looped s (closed inner) scope u.0 v (keeps_loop text s c body) (subst (λ (x : St). Formed1 T text p all has wanted1 named looped s scope (closed inner) x) q.4 whole) (ap (scope_after scope) (sym q.4) ∙ keeps))
+          let l = looping s c in
+          let h = clause_scope text l c in
+          let b0 = with_setting h (in_body h.setting) in
+          let inner = closed (behind_all text (opened b0) body) in
+          let after = behind_loop s (closed inner) in
+          let v1 = visible_set s scope (in_header (carries c) s.setting) v in
+          let u = map_some alone (loop_of (clause_head text l c) (statements text r true (opened b0) body)) b is in
+          let q = loop_some (clause_head text l c) (statements text r true (opened b0) body) u.0 u.1 in
+          let grow = grows_clause text l c in
+          let ext1 = within_before p all h inner (keeps_grows h inner (keeps_loop_body text h body)) ext in
+          let fits = clause_fits T text p all has wanted1 named l scope v1 (typed s g) table_formed (λ r1 same1 e. agreed r1 (same1 ∙ g) e) looped c q.0 q.2 ext1 in
+          let shows = head_visible T text p all has wanted1 named l scope v1 (typed s g) table_formed (λ r1 same1 e. agreed r1 (same1 ∙ g) e) looped h q.0 fits in
+          let a = formed_all true (opened b0) (head_scope T text p all has wanted1 named l scope v1 (typed s g) table_formed (λ r1 same1 e. agreed r1 (same1 ∙ g) e) q.0) body q.1 (visible_opened b0 _ (visible_set h _ (in_body h.setting) shows)) (grow.kept ∙ g) ext q.3 in
+          let whole = loop_formed T text p all has wanted1 named l scope v1 (typed s g) table_formed (λ r1 same1 e. agreed r1 (same1 ∙ g) e) looped h (closed inner) q.0 q.1 fits (record { count = a.count; fit = a.fit }) in
+          let keeps = loop_keeps T text p all has wanted1 named l scope v1 (typed s g) table_formed (λ r1 same1 e. agreed r1 (same1 ∙ g) e) looped h q.0 q.1 fits in
+          subst (λ (x : Sts). Whole looped s scope after x) u.2
+          (kept looped s after scope u.0 v (keeps_loop text s c body) (subst (λ (x : St). Formed1 T text p all has wanted1 named looped s scope after x) q.4 (record { count = whole.count; fit = whole.fit })) (ap (scope_after scope) (sym q.4) ∙ keeps))
       formed looped s scope (tree.break_stmt at) b v g ext is = jump looped s scope break_stmt b refl (λ l m n. l) refl v is
       formed looped s scope (tree.continue_stmt at) b v g ext is = jump looped s scope continue_stmt b refl (λ l m n. l) refl v is
       formed looped s scope (tree.return_stmt at es) b v g ext is =

@@ -5,9 +5,10 @@ use Rattle.std.specs.List.{AllByRecursion}
 use Rattle.std.specs.Str.{bytes_eq}
 use Rattle.type_faults.proofs.Options.{none_some, same_some}
 use Rattle.names.specs.Blocks.{Names, Blocks, entry_of, or_else, lookup}
+use Rattle.names.specs.declared.settings.Setting.{Setting}
 use Rattle.names.specs.declared.scope.Declared.{Declared}
 use Rattle.names.specs.declared.scope.Declared.TheVariants.{Variable, Untyped, Panic}
-use Rattle.names.specs.Scope.{Scope, numbered, declaration, outer, opened}
+use Rattle.names.specs.Scope.{Scope, numbered, declaration, outer, with_setting, opened}
 use Rattle.signatures.proofs.Growth.{IsLocal, Longer, longer_length, longer_twice, EntriesAbove, InnerAbove, Grows}
 
 -- a scope inside of another one: it has blocks of its own before the other's, and the names in them have numbers after those of the other's
@@ -19,8 +20,8 @@ pub record Inside (p r : Scope) : Type 0 where
   pub above : AllByRecursion (EntriesAbove (length p.declared)) (first ∷ others)
   pub declared : Longer p.declared r.declared
 
-pub inside_start : (p : Scope) → Inside p (opened p)
-inside_start p = record { first = []; others = []; blocks = refl; above = (tt, tt); declared = ([], sym (append-nil p.declared), tt) }
+pub inside_start : (p : Scope) (x : Setting) → Inside p (opened (with_setting p x))
+inside_start p x = record { first = []; others = []; blocks = refl; above = (tt, tt); declared = ([], sym (append-nil p.declared), tt) }
 
 pub inside_opened : (p r : Scope) → Inside p r → Inside p (opened r)
 inside_opened p r i = record { first = []; others = i.first ∷ i.others; blocks = ap (λ bs. [] ∷ bs) i.blocks; above = (tt, i.above); declared = i.declared }

@@ -3,6 +3,7 @@ mod Declared
 mod Growth
 mod OneHeads
 mod HeadsHold
+mod NoSlices
 mod Alike
 mod Constants
 mod Settling

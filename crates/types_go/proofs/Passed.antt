@@ -23,7 +23,7 @@ use Rattle.signatures.specs.Failing.{fault_where}
 use Rattle.function_heads.specs.Heads.{number_of, plain_number}
 use Rattle.function_heads.specs.HeadFaults.{first_byte}
 use Rattle.types_go.specs.Functions.{Member, functions_of, functions, behind_members, globals, declarations_in, IsHeads, numbered_functions, members, package_scope, main_number}
-use Rattle.types_go.specs.FunctionFaults.{MembersFail, SizesFail, PackageFails, RulesFail, IsOpen, FailsWithHeads}
+use Rattle.types_go.specs.FunctionFaults.{FailsInFunctions, SizesFail, PackageFails, RulesFail, IsOpen, FailsWithHeads}
 use Rattle.types_go.specs.Passing.{AreAt, global_view, rule_or_open, IsOfPackage, IsPassed}
 use Rattle.types_go.proofs.SettledPackage.{members_functions}
 
@@ -49,7 +49,7 @@ pub record Found (t : Syntax) (h r : Scope) (ms : List Member) (main : Option Fu
   pub sizes : Option Fault
   pub in_sizes : IsLeast (SizesFail t) sizes
   pub in_package : IsOfPackage t.text h r (declarations_in t) sizes declared
-  pub functions_fail : IsLeast (MembersFail t.text h r ms) in_functions
+  pub functions_fail : IsLeast (FailsInFunctions t.text h r 0 ms) in_functions
 
 views_are : (types : List TypeTree) (funcs : Option (Vec FuncData))
     → option_map (map (func_of types)) (option_map (λ (v : Vec FuncData). v.items) funcs) ≡ option_map (λ (v : Vec FuncData). map (func_of types) v.items) funcs
@@ -83,7 +83,7 @@ module _ (t : Syntax) (h : Scope) (is_heads : IsHeads t h) (formed : IsFormed h.
   pub passed : (r : Scope) (ms : List Member) → r ≡ package_scope t h → ms ≡ members t h → Found t h r ms main funcs behind gs declared in_functions
       → (absent : Bool) (no_main : Option Fault) → is_some main ≡ not absent → IsLeast (MainFails absent) no_main
       → (others : Option Fault) → IsLeast (IsOpen t h) others
-      → IsPassed t (option_map (λ (f : FuncId). f.0) main) (option_map (λ (v : Vec FuncData). v.items) funcs) behind.sites h.types behind.strings gs
+      → IsPassed t (option_map (λ (f : FuncId). f.0) main) (option_map (λ (v : Vec FuncData). v.items) funcs) behind.sites behind.site_names h.types behind.strings gs
       (rule_or_open (lesser no_main (lesser declared in_functions)) others)
   passed r ms r_is ms_is found0 absent no_main absent_is main_least others open_least =
       let found : Found t h (package_scope t h) (members t h) main funcs behind gs declared in_functions =
@@ -98,6 +98,7 @@ module _ (t : Syntax) (h : Scope) (is_heads : IsHeads t h) (formed : IsFormed h.
         places_are = subst (λ (l : List TreeFunction). AreAt (map (λ f. f.name.pos) l) (option_map (λ (v : Vec FuncData). v.items) funcs))
             (members_functions t.text h 0 (declarations_in t)) found.places;
         sites_are = ap (λ (v : Scope). v.sites) found.behind_is;
+        names_are = ap (λ (v : Scope). v.site_names) found.behind_is;
         table_is = refl;
         strings_are = ap (λ (v : Scope). v.strings) found.behind_is;
         globals_are = found.globals_are;

@@ -16,7 +16,7 @@ use Rattle.type_faults.proofs.Leasts.{least_join, Covers, covers_left, covers_ri
 use Rattle.names.specs.Scope.{Scope, opened, closed}
 use Rattle.simple_statements.specs.SimpleStatements.{Returns, before}
 use Rattle.simple_statements.proofs.Sequences.{before_done, before_more, joined}
-use Rattle.types_go.specs.Statements.{header, clause_scope, statement, statements, behind, behind_all}
+use Rattle.types_go.specs.Statements.{looping, body_opened, header, clause_scope, statement, statements, behind, behind_all}
 use Rattle.types_go.specs.StatementFaults.{FailsInGuard, FailsInClause, FailsInStatement, FailsInStatements, FailsInElse}
 use Rattle.types_go.specs.StatementPassing.{with_more}
 use Rattle.types_go.proofs.StatementGrowth.{grows}
@@ -113,6 +113,6 @@ module _ (text : List ℕ) (r1 : Returns) (looped : Bool) (s : Scope) (at : Pos)
       (least_join (FailsInGuard text s at g) (FailsInStatements text r1 looped (opened (header text s g.init)) body) a b x y) z
 
   -- a loop: its header and its body
-  pub loop_least : (c : Clause) (body : Stms) (a b : Option Fault) → IsLeast (FailsInClause text s at c) a → IsLeast (FailsInStatements text r1 true (opened (clause_scope text s c)) body) b
+  pub loop_least : (c : Clause) (body : Stms) (a b : Option Fault) → IsLeast (FailsInClause text (looping s c) at c) a → IsLeast (FailsInStatements text r1 true (body_opened (clause_scope text (looping s c) c)) body) b
       → IsLeast (FailsInStatement text r1 looped s (for_stmt at c body)) (lesser a b)
-  loop_least c body a b x y = least_join (FailsInClause text s at c) (FailsInStatements text r1 true (opened (clause_scope text s c)) body) a b x y
+  loop_least c body a b x y = least_join (FailsInClause text (looping s c) at c) (FailsInStatements text r1 true (body_opened (clause_scope text (looping s c) c)) body) a b x y

@@ -14,23 +14,26 @@ use Rattle.type_faults.specs.Given.{allowed}
 use Rattle.type_faults.specs.Faults.{fault, IsFault}
 use Rattle.type_faults.proofs.Decided.{Decided, Tested, further, same, mapped, after, both_decided, both_tested}
 use Rattle.type_faults.proofs.Options.{and_then_some, map_some}
+use Rattle.typed.specs.declared.program.SiteKind.TheVariants as kind
+use Rattle.names.specs.declared.settings.Setting.{Setting}
 use Rattle.names.specs.declared.scope.Declared.{Declared}
 use Rattle.names.specs.Universe.{is_blank}
-use Rattle.names.specs.Scope.{Scope, Signature, declaration, known, with_site, opened}
+use Rattle.names.specs.Scope.{Scope, Signature, declaration, known, declaring, after_function, with_site, closed}
 use Rattle.names.proofs.Settled.{HasSignature, IsSettled}
 use Rattle.package_values.specs.Values.{Item}
 use Rattle.signatures.specs.declared.slots.Slot.{Slot}
 use Rattle.signatures.specs.declared.entries.Role.TheVariants.{Parameter, Result}
+use Rattle.signatures.specs.Entries.{behind_entries}
 use Rattle.signatures.specs.EntryFaults.{EntriesFail}
 use Rattle.signatures.specs.Signatures.{types_of, words, is_number, may_be_named, is_small}
 use Rattle.signatures.specs.Failing.{fault_where}
 use Rattle.signatures.specs.SignatureFaults.{function_name_fault, size_fault}
-use Rattle.signatures.proofs.SettledEntries.{where_not, settled_opened, settled_closed, AllTyped, settled_entries, entries_decided}
+use Rattle.signatures.proofs.SettledEntries.{where_not, settled_set, settled_opened, settled_closed, AllTyped, settled_entries, entries_decided}
 use Rattle.function_heads.specs.HeadTypes.{slots_of, signature_in}
 use Rattle.function_heads.specs.Heads.{function_head}
 use Rattle.function_heads.specs.HeadFaults.{FailsInHead, FailsInWords, external_fault, missing_body_fault}
 use Rattle.types_go.specs.Statements.{behind_all}
-use Rattle.types_go.specs.Functions.{Member, of_function, of_variable, functions_of, type_or_int, behind_variable, behind_params, body_scope, behind_body, behind_function, returns_of, may_end, func, param_entries, result_entries, body_of, parts, function_with, function, functions}
+use Rattle.types_go.specs.Functions.{Member, of_function, of_variable, functions_of, type_or_int, behind_variable, declares, params_opened, behind_params, body_scope, behind_body, behind_function, returns_of, may_end, func, param_entries, result_entries, body_of, parts, function_with, function, functions}
 use Rattle.types_go.specs.StatementFaults.{FailsInStatements}
 use Rattle.types_go.specs.FunctionFaults.{FailsInParts, FailsWith, FailsInFunction, FailsInFunctions}
 use Rattle.given_values.specs.Given.{wanted_by}
@@ -95,7 +98,13 @@ module _ (text : List ℕ) (heads : Scope) where
   pub settled_body : (s : Scope) (g : TreeFunction) → HasSignature (signature_in text heads g) → IsSettled s → IsSettled (body_scope text heads s g)
   settled_body s g has settled =
       let t = signature_parts g has in
-      settled_entries text (behind_params text heads s g) (slots_of text heads g.results) (all_typed (slots_of text heads g.results) t.1 t.3) (settled_entries text (opened s) (slots_of text heads g.params) (all_typed (slots_of text heads g.params) t.0 t.2) (settled_opened s settled))
+      let params = slots_of text heads g.params in
+      let results = slots_of text heads g.results in
+      let behind1 = behind_entries text (params_opened s) params in
+      let r = behind_params text heads s g in
+      let behind2 = behind_entries text r results in
+      let settled1 = settled_entries text (params_opened s) params (all_typed params t.0 t.2) (settled_opened (declares kind.Parameter s) (settled_set s (declaring kind.Parameter s.setting) settled)) in
+      settled_set behind2 (declaring kind.Variable behind2.setting) (settled_entries text r results (all_typed results t.1 t.3) (settled_set behind1 (declaring kind.Result behind1.setting) settled1))
 
   head_tested : (s : Scope) (i : ℕ) (g : TreeFunction) → Tested (function_head text s i g) (FailsInHead text s i g)
   head_tested s i g =
@@ -115,8 +124,8 @@ module _ (text : List ℕ) (heads : Scope) where
       (head_tested s i g) (small_tested heads.types (signature_in text heads g) g.name.pos has)
       (where_not (may_end text heads s g b) (fault MissingReturn b.end))
       (λ small. parts_decided (param_entries text heads s g) (result_entries text heads s g) (body_of text heads s g b) (func text heads s g b)
-      (EntriesFail text Parameter (opened s) (slots_of text heads g.params)) (EntriesFail text Result (behind_params text heads s g) (slots_of text heads g.results)) (FailsInStatements text (returns_of text heads g) false (body_scope text heads s g) b.statements)
-      (entries_decided text Parameter (opened s) (slots_of text heads g.params)) (entries_decided text Result (behind_params text heads s g) (slots_of text heads g.results))
+      (EntriesFail text Parameter (params_opened s) (slots_of text heads g.params)) (EntriesFail text Result (behind_params text heads s g) (slots_of text heads g.results)) (FailsInStatements text (returns_of text heads g) false (body_scope text heads s g) b.statements)
+      (entries_decided text Parameter (params_opened s) (slots_of text heads g.params)) (entries_decided text Result (behind_params text heads s g) (slots_of text heads g.results))
       (statements_decided text (returns_of text heads g) (returns_ask g has) false (body_scope text heads s g) b.statements (settled_body s g has settled)))
 
   -- what a typed function is made of
@@ -149,15 +158,16 @@ module _ (text : List ℕ) (heads : Scope) where
       let b = p.0 in
       let made = p.1.1 in
       subst (λ o. IsSettled (behind_body text heads s g o)) (sym p.1.0)
+      (settled_set (closed (behind_all text (body_scope text heads s g) b.statements)) (after_function s.setting)
       (settled_closed (behind_all text (body_scope text heads s g) b.statements)
-      (settled_all text (returns_of text heads g) false (body_scope text heads s g) b.statements made.3.2 (settled_body s g (small_signed heads.types (signature_in text heads g) made.1) settled) made.3.5))
+      (settled_all text (returns_of text heads g) false (body_scope text heads s g) b.statements made.3.2 (settled_body s g (small_signed heads.types (signature_in text heads g) made.1) settled) made.3.5)))
 
-  settled_named : (s : Scope) (t : ValueType) (at : Pos) (blank : Bool) → IsSettled s → IsSettled (cond blank s (with_site s t at))
-  settled_named s t at true settled = settled
-  settled_named s t at false settled = record { all = settled.all; formed = settled.formed }
+  settled_named : (s : Scope) (x : Setting) (name : List ℕ) (t : ValueType) (at : Pos) (blank : Bool) → IsSettled s → IsSettled (cond blank s (with_site s x name t at))
+  settled_named s x name t at true settled = settled
+  settled_named s x name t at false settled = record { all = settled.all; formed = settled.formed }
 
   settled_variable : (s : Scope) (k : ℕ) (v : Item) → IsSettled s → IsSettled (behind_variable text s k v)
-  settled_variable s k v settled = settled_named s (type_or_int (known s k)) v.name.pos (is_blank (spelled text v.name)) settled
+  settled_variable s k v settled = settled_named s s.setting (spelled text v.name) (type_or_int (known s k)) v.name.pos (is_blank (spelled text v.name)) settled
 
   abbrev pub AllSigned : List TreeFunction → Type 0
   AllSigned [] = Unit {0}

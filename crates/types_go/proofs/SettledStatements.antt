@@ -2,7 +2,7 @@
 use Rattle.std.proofs.Common.{◌≡◌, ℕ, Bool, true, false, List, ◌⊎◌, inl, inr, Option, Some, None, refl}
 use Rattle.std.specs.Prelude.{option_and_then, not}
 use Rattle.std.specs.Option.{option_map}
-use Rattle.syntax.specs.Statements.{Stm, Stms, Els}
+use Rattle.syntax.specs.Statements.{Clause, Stm, Stms, Els}
 use Rattle.syntax.specs.Statements as tree
 use Rattle.typed_syntax.specs.Syntax.{St, Sts, block, break_stmt, continue_stmt}
 use Rattle.type_faults.specs.declared.fault.Fault.{Fault}
@@ -11,19 +11,19 @@ use Rattle.type_faults.specs.Given.{allowed}
 use Rattle.type_faults.specs.Faults.{fault, IsFault}
 use Rattle.type_faults.proofs.Decided.{Decided, further, mapped, after}
 use Rattle.type_faults.proofs.Options.{and_then_some, map_some}
-use Rattle.names.specs.Scope.{Scope, opened, closed}
+use Rattle.names.specs.Scope.{Scope, in_header, in_body, with_setting, opened, closed}
 use Rattle.names.proofs.Settled.{IsSettled}
 use Rattle.expression_types.specs.Typing.{seen}
 use Rattle.expression_types.specs.Faults.{FailsInEach}
 use Rattle.expression_types.proofs.Settled.{seen_decided}
 use Rattle.given_values.proofs.Places.{AllAsk}
 use Rattle.signatures.specs.Failing.{fault_where}
-use Rattle.signatures.proofs.SettledEntries.{settled_opened, settled_closed}
+use Rattle.signatures.proofs.SettledEntries.{settled_set, settled_opened, settled_closed}
 use Rattle.simple_statements.specs.SimpleStatements.{Returns, before, returned, simple_statement}
 use Rattle.simple_statements.specs.SimpleFaults.{ReturnFails, FailsInSimple}
 use Rattle.simple_statements.proofs.SettledSimple.{return_decided, simple_decided, settled_simple}
 use Rattle.simple_statements.proofs.SettledVariables.{specs_decided, settled_specs}
-use Rattle.types_go.specs.Statements.{Choice, Head, alone, chosen, for_of, choice_of, loop_of, header, guard_head, clause_scope, clause_head, behind, behind_else, behind_all, statement, alternative, statements}
+use Rattle.types_go.specs.Statements.{Choice, Head, alone, chosen, for_of, choice_of, loop_of, carries, looping, body_opened, behind_loop, header, guard_head, clause_scope, clause_head, behind, behind_else, behind_all, statement, alternative, statements}
 use Rattle.types_go.specs.StatementFaults.{FailsInClause, FailsInGuard, FailsInStatement, FailsInElse, FailsInStatements}
 use Rattle.types_go.proofs.SettledHeads.{guard_decided, settled_guard, clause_decided, settled_clause}
 
@@ -52,6 +52,13 @@ loop_some h b t is =
     let q = map_some (for_of r.0) b t r.2 in
     (r.0, q.0, r.1, q.1, q.2)
 
+-- a loop's body, and its header
+settled_body_opened : (h : Scope) → IsSettled h → IsSettled (body_opened h)
+settled_body_opened h settled = settled_opened (with_setting h (in_body h.setting)) (settled_set h (in_body h.setting) settled)
+
+settled_looping : (s : Scope) (c : Clause) → IsSettled s → IsSettled (looping s c)
+settled_looping s c settled = settled_set s (in_header (carries c) s.setting) settled
+
 module _ (text : List ℕ) (r : Returns) where
   mutual
     -- after a typed statement every variable has a type
@@ -68,11 +75,13 @@ module _ (text : List ℕ) (r : Returns) where
         let inside = settled_guard text s g q.0 settled q.3 in
         settled_closed (behind_else text inner rest) (settled_else looped inner rest q.2 (settled_closed (behind_all text (opened h) body) (settled_all looped (opened h) body q.1 (settled_opened h inside) q.4)) q.5)
     settled_behind looped s (tree.for_stmt at c body) b settled is =
-        let h = clause_scope text s c in
-        let u = map_some alone (loop_of (clause_head text s c) (statements text r true (opened h) body)) b is in
-        let q = loop_some (clause_head text s c) (statements text r true (opened h) body) u.0 u.1 in
-        let inside = settled_clause text s c q.0 settled q.2 in
-        settled_closed (closed (behind_all text (opened h) body)) (settled_closed (behind_all text (opened h) body) (settled_all true (opened h) body q.1 (settled_opened h inside) q.3))
+        let l = looping s c in
+        let h = clause_scope text l c in
+        let u = map_some alone (loop_of (clause_head text l c) (statements text r true (body_opened h) body)) b is in
+        let q = loop_some (clause_head text l c) (statements text r true (body_opened h) body) u.0 u.1 in
+        let inside = settled_clause text l c q.0 (settled_looping s c settled) q.2 in
+        let inner = closed (behind_all text (body_opened h) body) in
+        settled_set (closed inner) s.setting (settled_closed inner (settled_closed (behind_all text (body_opened h) body) (settled_all true (body_opened h) body q.1 (settled_body_opened h inside) q.3)))
     settled_behind looped s (tree.break_stmt at) b settled is = settled
     settled_behind looped s (tree.continue_stmt at) b settled is = settled
     settled_behind looped s (tree.return_stmt at es) b settled is = settled
@@ -114,10 +123,12 @@ module _ (text : List ℕ) (r : Returns) where
           (guard_decided text s at g settled) (λ c is. statements_decided looped (opened h) body (settled_opened h (settled_guard text s g c settled is)))
           (λ c y is y_is. else_decided looped inner rest (settled_inner looped h body y (settled_guard text s g c settled is) y_is)))
       statement_decided looped s (tree.for_stmt at c body) settled =
-          let h = clause_scope text s c in
-          mapped alone (loop_of (clause_head text s c) (statements text r true (opened h) body)) _
-          (after (clause_head text s c) (λ k. option_map (for_of k) (statements text r true (opened h) body)) (FailsInClause text s at c) (FailsInStatements text r true (opened h) body) (clause_decided text s at c settled)
-          (λ k is. mapped (for_of k) (statements text r true (opened h) body) (FailsInStatements text r true (opened h) body) (statements_decided true (opened h) body (settled_opened h (settled_clause text s c k settled is)))))
+          let l = looping s c in
+          let h = clause_scope text l c in
+          let inside = settled_looping s c settled in
+          mapped alone (loop_of (clause_head text l c) (statements text r true (body_opened h) body)) _
+          (after (clause_head text l c) (λ k. option_map (for_of k) (statements text r true (body_opened h) body)) (FailsInClause text l at c) (FailsInStatements text r true (body_opened h) body) (clause_decided text l at c inside)
+          (λ k is. mapped (for_of k) (statements text r true (body_opened h) body) (FailsInStatements text r true (body_opened h) body) (statements_decided true (body_opened h) body (settled_body_opened h (settled_clause text l c k inside is)))))
       statement_decided looped s (tree.break_stmt at) settled = jump_decided looped (alone break_stmt) (fault BreakOutside at)
       statement_decided looped s (tree.continue_stmt at) settled = jump_decided looped (alone continue_stmt) (fault BreakOutside at)
       statement_decided looped s (tree.return_stmt at es) settled =

@@ -5,13 +5,13 @@ use Rattle.base.specs.declared.value_type.ValueType.{ValueType}
 use Rattle.syntax.specs.Expressions.{Ex as TreeEx}
 use Rattle.syntax.specs.Statements.{Simple, Guard, Targets, Clause, forever, while_true, counting, ranging, Stm, Stms, Els}
 use Rattle.syntax.specs.Statements as tree
-use Rattle.names.specs.Scope.{Scope, opened, closed}
+use Rattle.names.specs.Scope.{Scope, in_header, in_body, with_setting, opened, closed}
 use Rattle.expression_types.specs.Typing.{gives}
-use Rattle.signatures.proofs.Growth.{Grows, Keeps, grows_none, grows_twice, keeps_twice, keeps_none, keeps_grows, keeps_strings, keeps_inner, grows_entries}
+use Rattle.signatures.proofs.Growth.{Grows, Keeps, grows_none, grows_twice, keeps_twice, keeps_none, keeps_grows, keeps_strings, keeps_set, keeps_inner, grows_entries}
 use Rattle.simple_statements.specs.SimpleStatements.{strings_in}
 use Rattle.simple_statements.proofs.Growth.{grows_simple, grows_specs}
 use Rattle.types_go.specs.Ranges.{target_slots, copied, behind_copy, ranged, given, target_count, behind_targets, behind_range}
-use Rattle.types_go.specs.Statements.{header, behind_post_simple, behind_post, clause_scope, behind, behind_else, behind_all}
+use Rattle.types_go.specs.Statements.{carries, looping, body_opened, behind_loop, header, behind_post_simple, behind_post, clause_scope, behind, behind_else, behind_all}
 
 -- the site of a copy
 pub keeps_copy : (s : Scope) (t : Option ValueType) (at : Pos) → Keeps s (behind_copy s t at)
@@ -54,6 +54,17 @@ module _ (text : List ℕ) where
   keeps_headed : (s h r : Scope) → Grows (opened s) h → Keeps h r → Keeps s (closed r)
   keeps_headed s h r g k = keeps_inner s r (grows_twice (opened s) h r g (keeps_grows h r k))
 
+  -- a loop, whose body grows what it begins with
+  loop_kept : (s : Scope) (c : Clause) (body : Stms) → Grows (body_opened (clause_scope text (looping s c) c)) (behind_all text (body_opened (clause_scope text (looping s c) c)) body)
+      → Keeps s (behind_loop s (closed (closed (behind_all text (body_opened (clause_scope text (looping s c) c)) body))))
+  loop_kept s c body g =
+      let l = looping s c in
+      let h = clause_scope text l c in
+      let b = with_setting h (in_body h.setting) in
+      let inner = closed (behind_all text (opened b) body) in
+      let after = keeps_headed l h inner (grows_clause l c) (keeps_twice h b inner (keeps_set h (in_body h.setting)) (keeps_inner b (behind_all text (opened b) body) g)) in
+      keeps_twice s (closed inner) (behind_loop s (closed inner)) (keeps_twice s l (closed inner) (keeps_set s (in_header (carries c) s.setting)) after) (keeps_set (closed inner) s.setting)
+
   mutual
     pub grows : (s : Scope) (m : Stm) → Grows s (behind text s m)
     grows s (tree.var_stmt at specs) = grows_specs text s specs
@@ -65,9 +76,8 @@ module _ (text : List ℕ) where
         let last1 = behind_else text inner rest in
         keeps_grows s (closed last1) (keeps_headed s h last1 (grows_header s g.init) (keeps_twice h inner last1 (keeps_inner h (behind_all text (opened h) body) (grows_all (opened h) body)) (keeps_else inner rest)))
     grows s (tree.for_stmt at c body) =
-        let h = clause_scope text s c in
-        let inner = closed (behind_all text (opened h) body) in
-        keeps_grows s (closed inner) (keeps_headed s h inner (grows_clause s c) (keeps_inner h (behind_all text (opened h) body) (grows_all (opened h) body)))
+        let inner = body_opened (clause_scope text (looping s c) c) in
+        keeps_grows s (behind_loop s (closed (closed (behind_all text inner body)))) (loop_kept s c body (grows_all inner body))
     grows s (tree.break_stmt at) = grows_none s
     grows s (tree.continue_stmt at) = grows_none s
     grows s (tree.return_stmt at es) = grows_none s
@@ -96,7 +106,10 @@ module _ (text : List ℕ) where
       let last1 = behind_else text inner rest in
       keeps_headed s h last1 (grows_header s g.init) (keeps_twice h inner last1 (keeps_block h body) (keeps_else inner rest))
 
-  pub keeps_loop : (s : Scope) (c : Clause) (body : Stms) → Keeps s (closed (closed (behind_all text (opened (clause_scope text s c)) body)))
-  keeps_loop s c body =
-      let h = clause_scope text s c in
-      keeps_headed s h (closed (behind_all text (opened h) body)) (grows_clause s c) (keeps_block h body)
+  pub keeps_loop : (s : Scope) (c : Clause) (body : Stms) → Keeps s (behind_loop s (closed (closed (behind_all text (body_opened (clause_scope text (looping s c) c)) body))))
+  keeps_loop s c body = loop_kept s c body (grows_all (body_opened (clause_scope text (looping s c) c)) body)
+
+  -- its body with the block around it
+  pub keeps_loop_body : (h : Scope) (body : Stms) → Keeps h (closed (behind_all text (body_opened h) body))
+  keeps_loop_body h body =
+      let b = with_setting h (in_body h.setting) in keeps_twice h b (closed (behind_all text (opened b) body)) (keeps_set h (in_body h.setting)) (keeps_block b body)

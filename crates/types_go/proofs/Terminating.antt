@@ -34,7 +34,7 @@ use Rattle.simple_statements.proofs.SettledValues.{allowed_is}
 use Rattle.simple_statements.proofs.SettledSimple.{where_some, assignment_some}
 use Rattle.terminating.specs.Terminating.{is_endless, leaves, leaves_else, leaves_any, is_panic, names_panic, panics, ends_simple, is_terminating, is_terminating_else, ends_after}
 use Rattle.types_go.specs.Ranges.{range_in}
-use Rattle.types_go.specs.Statements.{Choice, Head, for_clause, range_clause, alone, declared_in, headed, for_of, choice_of, loop_of, header, init_statement, post_statement, guard_head, clause_scope, clause_head, behind, behind_all, statement, alternative, statements}
+use Rattle.types_go.specs.Statements.{Choice, Head, for_clause, range_clause, alone, declared_in, headed, for_of, choice_of, loop_of, looping, body_opened, header, init_statement, post_statement, guard_head, clause_scope, clause_head, behind, behind_all, statement, alternative, statements}
 use Rattle.types_go.proofs.StatementGrowth.{grows, grows_header, keeps_block}
 use Rattle.types_go.proofs.Inside.{Inside, inside_opened, inside_grows, MayPanic, panic_inside}
 use Rattle.types_go.proofs.SettledStatements.{choice_some, loop_some}
@@ -272,10 +272,11 @@ module _ (text : List ℕ) where
           ap breaks_all (sym u.2) ∙ (or_false (breaks u.0) ∙ (ap breaks (sym q.6) ∙ (headed_breaks q.0.init (if_stmt q.0.condition q.1 q.2) (guard_still s g q.0 q.3)
           ∙ (ap (λ x. x || breaks_all q.2) (leaves_all looped (opened h) body q.1 q.4) ∙ ap (λ x. leaves_any body || x) (leaves_rest looped inner rest q.2 q.5)))))
       leaves_same looped s (tree.for_stmt at c body) b is =
-          let h = clause_scope text s c in
-          let u = map_some alone (loop_of (clause_head text s c) (statements text r true (opened h) body)) b is in
-          let q = loop_some (clause_head text s c) (statements text r true (opened h) body) u.0 u.1 in
-          ap breaks_all (sym u.2) ∙ (or_false (breaks u.0) ∙ (ap breaks (sym q.4) ∙ loop_still s c q.0 q.1 q.2))
+          let l = looping s c in
+          let h = clause_scope text l c in
+          let u = map_some alone (loop_of (clause_head text l c) (statements text r true (body_opened h) body)) b is in
+          let q = loop_some (clause_head text l c) (statements text r true (body_opened h) body) u.0 u.1 in
+          ap breaks_all (sym u.2) ∙ (or_false (breaks u.0) ∙ (ap breaks (sym q.4) ∙ loop_still l c q.0 q.1 q.2))
       leaves_same looped s (tree.break_stmt at) b is = ap breaks_all (sym (same_some (allowed_is looped (Some (alone break_stmt)) b is).1))
       leaves_same looped s (tree.continue_stmt at) b is = ap breaks_all (sym (same_some (allowed_is looped (Some (alone continue_stmt)) b is).1))
       leaves_same looped s (tree.return_stmt at es) b is =
@@ -323,11 +324,12 @@ module _ (text : List ℕ) where
           ends_alone e u.0 b u.2 (ap ends (sym q.6) ∙ (headed_ends q.0.init (if_stmt q.0.condition q.1 q.2)
           ∙ (ap (λ x. x && ends_all q.2) (sym (ends_same q.1) ∙ ends_list looped (opened h) (inside_opened base h at_head) body q.1 q.4 false both1.0) ∙ ends_else looped inner (inside_grows base h inner at_head (keeps_grows h inner (keeps_block text h body))) rest q.2 q.5 both1.1)))
       ends_statement looped s inside (tree.for_stmt at c body) b is ending e =
-          let h = clause_scope text s c in
-          let u = map_some alone (loop_of (clause_head text s c) (statements text r true (opened h) body)) b is in
-          let q = loop_some (clause_head text s c) (statements text r true (opened h) body) u.0 u.1 in
+          let l = looping s c in
+          let h = clause_scope text l c in
+          let u = map_some alone (loop_of (clause_head text l c) (statements text r true (body_opened h) body)) b is in
+          let q = loop_some (clause_head text l c) (statements text r true (body_opened h) body) u.0 u.1 in
           let both1 = and_true (is_endless c) (not (leaves_any body)) ending in
-          ends_alone e u.0 b u.2 (ap ends (sym q.4) ∙ loop_ends s c q.0 q.1 q.2 both1.0 (leaves_all r true (opened h) body q.1 q.3 ∙ not_true (leaves_any body) both1.1))
+          ends_alone e u.0 b u.2 (ap ends (sym q.4) ∙ loop_ends l c q.0 q.1 q.2 both1.0 (leaves_all r true (body_opened h) body q.1 q.3 ∙ not_true (leaves_any body) both1.1))
       ends_statement looped s inside (tree.break_stmt at) b is ending e = cc ending
       ends_statement looped s inside (tree.continue_stmt at) b is ending e = cc ending
       ends_statement looped s inside (tree.return_stmt at es) b is ending e =

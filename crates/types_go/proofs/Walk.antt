@@ -21,7 +21,7 @@ use Rattle.names.specs.Scope.{Scope}
 use Rattle.type_faults.specs.Given.{with_last}
 use Rattle.type_faults.proofs.Lists.{joined, joined_start, joined_more, joined_none}
 use Rattle.types_go.specs.Functions.{Member, of_function, of_variable, functions_of, behind_variable, globals_of, function, functions, behind_function, behind_members, globals}
-use Rattle.types_go.specs.FunctionFaults.{FailsInFunction, FailsInFunctions, LargeFails, sites_of_function, LargeInFunctions}
+use Rattle.types_go.specs.FunctionFaults.{FailsInFunction, FailsInFunctions}
 use Rattle.function_heads.specs.Assembled.{IsAt}
 use Rattle.types_go.specs.Passing.{AreAt, global_view}
 use Rattle.types_go.proofs.Growth.{keeps_function, keeps_variable}
@@ -43,10 +43,6 @@ pub record MembersKept (text : List ℕ) (heads start : Scope) (all rest : List 
 -- the package variables so far, and those still ahead
 abbrev pub GlobalsKept : List ℕ → (heads start : Scope) → (all rest : List Member) → Scope → List PackageVariable → Type 0
 GlobalsKept text heads start all rest s gs = globals text heads start all ≡ map global_view gs ++ globals text heads s rest
-
--- the variables that are left out so far, and those still ahead
-abbrev pub LargeKept : List ℕ → (heads start : Scope) → (all rest : List Member) → Scope → Option Fault → Type 0
-LargeKept text heads start all rest s large = Kept (LargeInFunctions text heads start all) (LargeInFunctions text heads s rest) large
 
 views_more : (types : List TypeTree) (funcs : Option (List FuncData)) (f : Option FuncData) → views types (with_last funcs f) ≡ with_last (views types funcs) (option_map (func_of types) f)
 views_more types None f = refl
@@ -80,15 +76,6 @@ module _ (text : List ℕ) (heads start : Scope) (all : List Member) where
   variable_more v x ms s i funcs least k =
       let depth : length (behind_variable text s v x).blocks ≡ length s.blocks = ap length (keeps_variable text heads s v x).blocks in
       record { given = k.given; kept = k.kept; scope = k.scope; places = k.places; inside = omega (arith, depth, k.inside) }
-
-  pub large_more : (g : TreeFunction) (ms : List Member) (s : Scope) (large own : Option Fault) → LargeKept text heads start all (of_function g ∷ ms) s large
-      → IsLeast (LargeFails heads.types (sites_of_function text heads s g)) own → LargeKept text heads start all ms (behind_function text heads s g) (lesser large own)
-  large_more g ms s large own k fails =
-      kept_more (LargeInFunctions text heads start all) (LargeFails heads.types (sites_of_function text heads s g))
-      (LargeInFunctions text heads (behind_function text heads s g) ms) large own k fails
-
-  pub large_all : (s : Scope) (large : Option Fault) → LargeKept text heads start all [] s large → IsLeast (LargeInFunctions text heads start all) large
-  large_all s large k = kept_end (LargeInFunctions text heads start all) (LargeInFunctions text heads s []) large (λ g h. h) k
 
   pub globals_more : (v : ℕ) (x : Item) (ms : List Member) (s : Scope) (gs hs : List PackageVariable) → GlobalsKept text heads start all (of_variable v x ∷ ms) s gs
       → map global_view hs ≡ map global_view gs ++ globals_of text s v x → GlobalsKept text heads start all ms (behind_variable text s v x) hs

@@ -4,7 +4,7 @@ use Rattle.base.specs.declared.pos.Pos.{Pos}
 use Rattle.syntax.specs.Declarations.{Syntax}
 use Rattle.typed_syntax.specs.Syntax.{Func, Program}
 use Rattle.typed.specs.Trees.{trees}
-use Rattle.typed.specs.View.{site_types, program_of}
+use Rattle.typed.specs.View.{site_types, addresses_taken, program_of}
 use Rattle.typed_syntax.specs.Types.{TypeTree}
 use Rattle.typed.specs.declared.program.Site.{Site}
 use Rattle.typed.specs.declared.program.Program.{Program as ProgramData}
@@ -19,7 +19,7 @@ use Rattle.package_values.specs.Values.{Item, items_in}
 use Rattle.package_values.specs.Needs.{Reaches}
 use Rattle.package_values.specs.Accepted.{DeclarationsAre}
 use Rattle.types_go.specs.Functions.{begun_at, behind_members, globals, members, declarations_in, IsHeads, numbered_functions, package_scope, main_number, program_functions}
-use Rattle.types_go.specs.FunctionFaults.{LargeInFunctions, StructsFail, FailsIn}
+use Rattle.types_go.specs.FunctionFaults.{StructsFail, FailsIn}
 
 -- with these names of its package, the variables of a tree, in the order of the text
 abbrev pub sites_in : Syntax → Scope → List Site
@@ -29,9 +29,13 @@ sites_in t h = (behind_members t.text h (package_scope t h) (members t h)).sites
 abbrev pub function_places : Syntax → Scope → List Pos
 function_places t h = map (λ f. f.name.pos) (numbered_functions t h)
 
--- these are its sites, and its functions stand at these places
-abbrev pub AreSites : Syntax → List Site → Type 0
-AreSites t sites = (h : Scope) × IsHeads t h × (sites ≡ sites_in t h)
+-- the bytes of their names
+abbrev pub site_names_in : Syntax → Scope → List ℕ
+site_names_in t h = (behind_members t.text h (package_scope t h) (members t h)).site_names
+
+-- these are its sites, by the bytes of their names, and its functions stand at these places
+abbrev pub AreSites : Syntax → List Site → (names : List ℕ) → Type 0
+AreSites t sites names = (h : Scope) × IsHeads t h × (sites ≡ sites_in t h) × (names ≡ site_names_in t h)
 
 abbrev pub AreAtNames : Syntax → List Pos → Type 0
 AreAtNames t places = (h : Scope) × IsHeads t h × (places ≡ function_places t h)
@@ -57,6 +61,7 @@ program_with t h funcs main = record {
   funcs = funcs;
   types = types_in h;
   sites = sites_types t h;
+  taken = addresses_taken (sites_in t h);
   strings = strings_in t h;
   globals = map (begun_at (sites_types t h)) (globals_in t h);
   main = main;
@@ -70,8 +75,6 @@ pub record Types (t : Syntax) (p : Program) : Type 0 where
   pub main : ℕ
   pub functions : program_functions t heads ≡ Some funcs
   pub main_is : main_number t heads ≡ Some main
-  -- no variable of a function has more words than a frame takes
-  pub framed : (f : Fault) → LargeInFunctions t.text heads (package_scope t heads) (members t heads) f → ⊥
   -- each struct is a type, and no rule fails in its declaration
   pub structs : AreTypes heads.types 0 (type_specs_in (declarations_in t))
   pub structs_sound : (f : Fault) → StructsFail t heads f → ⊥

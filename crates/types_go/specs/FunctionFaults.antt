@@ -1,15 +1,11 @@
 -- Which rules fail in a function and in a tree, and where each is reported. A form that is left out fails at its first byte, and nothing
 -- after that is looked at: whatever fails further right is never reported.
-use Rattle.std.specs.Prelude.{ℕ, ◌+◌, ◌⊎◌, Bool, false, not, nat_le, length, drop, List, [], ◌∷◌, Option, Some, None, is_some}
+use Rattle.std.specs.Prelude.{ℕ, ◌+◌, ◌⊎◌, false, not, List, [], ◌∷◌, Option, Some, None, is_some}
 use Rattle.syntax.specs.Declarations.{Body, Function as TreeFunction, Declaration, Syntax}
 use Rattle.type_faults.specs.declared.fault.Fault.{Fault}
-use Rattle.type_faults.specs.declared.fault.FaultKind.TheVariants.{MissingReturn, NoMain, OutOfProfile}
-use Rattle.typed_syntax.specs.Types.{width}
-use Rattle.typed.specs.Tables.{Table}
-use Rattle.typed.specs.Trees.{tree_named}
-use Rattle.typed.specs.declared.program.Site.{Site}
+use Rattle.type_faults.specs.declared.fault.FaultKind.TheVariants.{MissingReturn, NoMain}
 use Rattle.type_faults.specs.Faults.{fault, IsFault}
-use Rattle.names.specs.Scope.{Scope, opened}
+use Rattle.names.specs.Scope.{Scope}
 use Rattle.declared_structs.specs.Faults.{type_specs_in, SizesOfAllFail, StructsOpen}
 use Rattle.declared_structs.specs.Faults.{DeclarationsFail as StructDeclarationsFail}
 use Rattle.package_values.specs.ValueFaults.{ItemsFail}
@@ -18,13 +14,13 @@ use Rattle.signatures.specs.EntryFaults.{EntriesFail}
 use Rattle.function_heads.specs.HeadTypes.{slots_of, signature_in}
 use Rattle.signatures.specs.Failing.{fault_where}
 use Rattle.function_heads.specs.HeadFaults.{external_fault, missing_body_fault, first_byte, FailsInHead, FailsInWords, DeclarationsFail, HeadsOpen}
-use Rattle.types_go.specs.Functions.{Member, of_function, of_variable, behind_variable, behind_params, body_scope, behind_function, returns_of, may_end, declarations_in, constants_scope, IsHeads, numbered_functions, members, package_scope, main_number}
+use Rattle.types_go.specs.Functions.{Member, of_function, of_variable, behind_variable, params_opened, behind_params, body_scope, behind_function, returns_of, may_end, declarations_in, constants_scope, IsHeads, numbered_functions, members, package_scope, main_number}
 use Rattle.types_go.specs.StatementFaults.{FailsInStatements}
 
 module _ (text : List ℕ) (heads : Scope) where
   abbrev pub FailsInParts : Scope → TreeFunction → Body → Fault → Type 0
   FailsInParts s g b f =
-      (EntriesFail text parameter (opened s) (slots_of text heads g.params) f ⊎ EntriesFail text result (behind_params text heads s g) (slots_of text heads g.results) f)
+      (EntriesFail text parameter (params_opened s) (slots_of text heads g.params) f ⊎ EntriesFail text result (behind_params text heads s g) (slots_of text heads g.results) f)
       ⊎ FailsInStatements text (returns_of text heads g) false (body_scope text heads s g) b.statements f
 
   -- with results, a function ends in a terminating statement
@@ -39,33 +35,6 @@ module _ (text : List ℕ) (heads : Scope) where
   FailsInFunctions s i [] f = ⊥
   FailsInFunctions s i (of_function g ∷ ms) f = FailsInFunction s i g f ⊎ FailsInFunctions (behind_function text heads s g) (1 + i) ms f
   FailsInFunctions s i (of_variable k v ∷ ms) f = FailsInFunctions (behind_variable text s k v) i ms f
-
--- ---- a variable of more words than a frame takes has no rules yet
-
-abbrev pub most_words : ℕ
-most_words = 8192
-
-abbrev pub is_framed : Table → Site → Bool
-is_framed T site = nat_le (width (tree_named T site.type_id.0)) most_words
-
-abbrev pub LargeFails : Table → List Site → Fault → Type 0
-LargeFails T [] f = ⊥
-LargeFails T (site ∷ sites) f = IsFault (fault_where (not (is_framed T site)) (fault OutOfProfile site.pos)) f ⊎ LargeFails T sites f
-
-module _ (text : List ℕ) (heads : Scope) where
-  -- the sites of a function, in the package block
-  abbrev pub sites_of_function : Scope → TreeFunction → List Site
-  sites_of_function s g = drop (length s.sites) (behind_function text heads s g).sites
-
-  -- in the functions of a package
-  abbrev pub LargeInFunctions : Scope → List Member → Fault → Type 0
-  LargeInFunctions s [] f = ⊥
-  LargeInFunctions s (of_function g ∷ ms) f = LargeFails heads.types (sites_of_function s g) f ⊎ LargeInFunctions (behind_function text heads s g) ms f
-  LargeInFunctions s (of_variable k v ∷ ms) f = LargeInFunctions (behind_variable text s k v) ms f
-
-  -- a rule fails in the functions of a package, or one of their variables is left out
-  abbrev pub MembersFail : Scope → List Member → Fault → Type 0
-  MembersFail s ms f = FailsInFunctions text heads s 0 ms f ⊎ LargeInFunctions s ms f
 
 -- ---- a tree
 
@@ -88,7 +57,7 @@ PackageFails t h f = DeclaredFails t.text h (package_scope t h) (declarations_in
 abbrev pub RulesFail : Syntax → Scope → Fault → Type 0
 RulesFail t h f =
     IsFault (fault_where (not (is_some (main_number t h))) (fault NoMain first_byte)) f
-    ⊎ (PackageFails t h f ⊎ MembersFail t.text h (package_scope t h) (members t h) f)
+    ⊎ (PackageFails t h f ⊎ FailsInFunctions t.text h (package_scope t h) 0 (members t h) f)
 
 -- where no rule fails, and yet the types in the head of a function aren't known, or a struct is no type, these go in a circle: say, through
 -- the length of an array that is the value of a call

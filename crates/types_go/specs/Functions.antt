@@ -16,9 +16,11 @@ use Rattle.base.specs.declared.value_type.ValueType.{ValueType}
 use Rattle.base.specs.declared.value_type.ValueType.TheVariants.{Int, Bool as Boolean}
 use Rattle.constants.specs.Constants.{is_int}
 use Rattle.type_faults.specs.Given.{allowed}
+use Rattle.typed.specs.declared.program.SiteKind.{SiteKind}
+use Rattle.typed.specs.declared.program.SiteKind.TheVariants as kind
 use Rattle.names.specs.Universe.{is_blank, is_main}
 use Rattle.names.specs.declared.scope.Known.{Known}
-use Rattle.names.specs.Scope.{Scope, declaration, known, with_site, opened, closed, beginning}
+use Rattle.names.specs.Scope.{Scope, declaration, known, declaring, after_function, with_site, with_setting, opened, closed, beginning}
 use Rattle.given_values.specs.Given.{known_type, wanted_by}
 use Rattle.expression_types.specs.Typing.{gives}
 use Rattle.struct_sizes.specs.Structs.{Fields}
@@ -80,10 +82,17 @@ or_zero t (Some v) = v
 abbrev pub begun_at : List TypeTree → ℕ × Option Value → ℕ × Value
 begun_at site_trees g = (g.0, or_zero (get_or site_trees g.0 ints) g.1)
 
+-- where variables of a kind are declared
+abbrev pub declares : SiteKind → Scope → Scope
+declares k s = with_setting s (declaring k s.setting)
+
+abbrev pub params_opened : Scope → Scope
+params_opened s = opened (declares kind.Parameter s)
+
 module _ (text : List ℕ) where
   -- with a name a variable has a site
   abbrev pub behind_variable : Scope → ℕ → Item → Scope
-  behind_variable s k i = if is_blank (spelled text i.name) then s else with_site s (type_or_int (known s k)) i.name.pos
+  behind_variable s k i = if is_blank (spelled text i.name) then s else with_site s s.setting (spelled text i.name) (type_or_int (known s k)) i.name.pos
 
   abbrev pub initial : Scope → Option TreeEx → Option Fixed
   initial s None = None
@@ -115,16 +124,16 @@ module _ (text : List ℕ) (heads : Scope) where
 
   -- ---- a function, by its number, in the package block
 
-  -- the scope after the parameters, and where the body begins
+  -- the scope after the parameters, where the results are declared, and where the body begins
   abbrev pub behind_params : Scope → TreeFunction → Scope
-  behind_params s f = behind_entries text (opened s) (slots_of text heads f.params)
+  behind_params s f = declares kind.Result (behind_entries text (params_opened s) (slots_of text heads f.params))
 
   abbrev pub body_scope : Scope → TreeFunction → Scope
-  body_scope s f = behind_entries text (behind_params s f) (slots_of text heads f.results)
+  body_scope s f = declares kind.Variable (behind_entries text (behind_params s f) (slots_of text heads f.results))
 
   abbrev pub behind_body : Scope → TreeFunction → Option Body → Scope
   behind_body s f None = s
-  behind_body s f (Some b) = closed (behind_all text (body_scope s f) b.statements)
+  behind_body s f (Some b) = with_setting (closed (behind_all text (body_scope s f) b.statements)) (after_function s.setting)
 
   abbrev pub behind_function : Scope → TreeFunction → Scope
   behind_function s f = behind_body s f f.body
@@ -142,7 +151,7 @@ module _ (text : List ℕ) (heads : Scope) where
 
   -- the parameters' and results' entries, and the body
   abbrev pub param_entries : Scope → TreeFunction → Option (List (Option ℕ))
-  param_entries s f = entries text parameter (opened s) (slots_of text heads f.params)
+  param_entries s f = entries text parameter (params_opened s) (slots_of text heads f.params)
 
   abbrev pub result_entries : Scope → TreeFunction → Option (List (Option ℕ))
   result_entries s f = entries text result (behind_params s f) (slots_of text heads f.results)

@@ -26,7 +26,7 @@ use Rattle.package_values.specs.ValueFaults.{ItemsFail}
 use Rattle.function_heads.specs.HeadFaults.{DeclarationsFail}
 use Rattle.types_go.specs.Functions.{Member, of_function, of_variable, numbered, functions, IsHeads, members, package_scope, main_number}
 use Rattle.types_go.specs.FunctionFaults.{FailsWithHeads}
-use Rattle.types_go.specs.Checked.{sites_in, function_places, strings_in, types_in, globals_in}
+use Rattle.types_go.specs.Checked.{sites_in, site_names_in, function_places, strings_in, types_in, globals_in}
 
 -- a tree of its parts
 abbrev pub syntax_with : List ℕ → Name → List Declaration → Syntax
@@ -79,7 +79,7 @@ pub record IsOfPackage (text : List ℕ) (h s : Scope) (ds : List Declaration) (
   pub found_is : found ≡ lesser functions (lesser (lesser sizes structs) values)
 
 -- what the pass over a tree finds
-pub record IsPassed (t : Syntax) (main : Option ℕ) (funcs : Option (List FuncData)) (sites : List Site) (table : Table)
+pub record IsPassed (t : Syntax) (main : Option ℕ) (funcs : Option (List FuncData)) (sites : List Site) (names : List ℕ) (table : Table)
     (strings : List (List ℕ)) (globals : List PackageVariable) (fault : Option Fault) : Type 0 where
   pub heads : Scope
   pub is_heads : IsHeads t heads
@@ -88,6 +88,7 @@ pub record IsPassed (t : Syntax) (main : Option ℕ) (funcs : Option (List FuncD
   pub funcs_are : option_map (map (func_of (types_in heads))) funcs ≡ functions t.text heads (package_scope t heads) 0 (members t heads)
   pub places_are : AreAt (function_places t heads) funcs
   pub sites_are : sites ≡ sites_in t heads
+  pub names_are : names ≡ site_names_in t heads
   pub table_is : table ≡ heads.types
   pub strings_are : strings ≡ strings_in t heads
   pub globals_are : map global_view globals ≡ globals_in t heads

@@ -12,7 +12,7 @@ use Rattle.typed.specs.Tables.{Table}
 use Rattle.type_faults.specs.Given.{allowed}
 use Rattle.operators.specs.Operands.{Operand, type_of, as_value}
 use Rattle.names.specs.Universe.{is_blank}
-use Rattle.names.specs.Scope.{Scope, with_site, opened}
+use Rattle.names.specs.Scope.{Scope, of_copy, with_site, opened}
 use Rattle.operand_parts.specs.Parts.{ArrayType, array_parts}
 use Rattle.operand_calls.specs.Calls.{has_call}
 use Rattle.given_values.specs.declared.wants.Wanted.{Wanted}
@@ -132,10 +132,10 @@ copied (Some r) (Some n) = copied_by r n
 copied (Some r) None = None
 copied None n = None
 
--- its site stands at the word `range`
+-- its site stands at the word `range`, and outside of the loop
 abbrev pub behind_copy : Scope → Option ValueType → Pos → Scope
 behind_copy s None pos = s
-behind_copy s (Some t) pos = with_site s t pos
+behind_copy s (Some t) pos = with_site s (of_copy s.setting) [] t pos
 
 module _ (text : List ℕ) where
   -- outside of the block of the header

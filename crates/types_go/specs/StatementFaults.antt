@@ -13,7 +13,7 @@ use Rattle.signatures.specs.Failing.{fault_where}
 use Rattle.simple_statements.specs.SimpleStatements.{Returns}
 use Rattle.simple_statements.specs.SimpleFaults.{names_place, ReturnFails, FailsInSimple, FailsInSpecs}
 use Rattle.types_go.specs.RangeFaults.{FailsInRange}
-use Rattle.types_go.specs.Statements.{header, clause_scope, behind, behind_all}
+use Rattle.types_go.specs.Statements.{looping, body_opened, header, clause_scope, behind, behind_all}
 
 module _ (text : List ℕ) where
   -- ---- headers of `if` and `for`, whose word stands at a place
@@ -49,7 +49,7 @@ module _ (text : List ℕ) where
       FailsInStatement looped s (tree.block ms) f = FailsInStatements looped (opened s) ms f
       FailsInStatement looped s (tree.if_stmt pos g body rest) f =
           (FailsInGuard s pos g f ⊎ FailsInStatements looped (opened (header text s g.init)) body f) ⊎ FailsInElse looped (closed (behind_all text (opened (header text s g.init)) body)) rest f
-      FailsInStatement looped s (tree.for_stmt pos c body) f = FailsInClause s pos c f ⊎ FailsInStatements true (opened (clause_scope text s c)) body f
+      FailsInStatement looped s (tree.for_stmt pos c body) f = FailsInClause (looping s c) pos c f ⊎ FailsInStatements true (body_opened (clause_scope text (looping s c) c)) body f
       FailsInStatement looped s (tree.break_stmt pos) f = IsFault (fault_where (not looped) (fault BreakOutside pos)) f
       FailsInStatement looped s (tree.continue_stmt pos) f = IsFault (fault_where (not looped) (fault BreakOutside pos)) f
       FailsInStatement looped s (tree.return_stmt pos es) f = FailsInEach text s es f ⊎ ReturnFails pos r (seen text s es) f

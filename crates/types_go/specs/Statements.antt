@@ -1,12 +1,12 @@
 -- The typed statements that the rules of the language give a tree (Go specification, "If statements", "For statements", "Break statements",
 -- "Continue statements", "Return statements").
-use Rattle.std.specs.Prelude.{ℕ, Bool, true, List, [], ◌∷◌, Option, Some, None, option_and_then}
+use Rattle.std.specs.Prelude.{ℕ, Bool, true, false, List, [], ◌∷◌, Option, Some, None, option_and_then}
 use Rattle.std.specs.Option.{option_map}
 use Rattle.syntax.specs.Statements.{Simple, Guard, Clause, forever, while_true, counting, ranging, Stm, Stms, Els}
 use Rattle.syntax.specs.Statements as tree
 use Rattle.typed_syntax.specs.Syntax.{Ex, Left, St, Sts, blank, new, to, assign, block, if_stmt, for_stmt, range, break_stmt, continue_stmt, done, next}
 use Rattle.type_faults.specs.Given.{allowed}
-use Rattle.names.specs.Scope.{Scope, opened, closed}
+use Rattle.names.specs.Scope.{Scope, in_header, in_body, with_setting, opened, closed}
 use Rattle.expression_types.specs.Typing.{seen, condition, test}
 use Rattle.simple_statements.specs.SimpleStatements.{Returns, before, returned, behind_simple, simple_statement, spec_statements, behind_specs}
 use Rattle.types_go.specs.Ranges.{Range, behind_range, range_in}
@@ -77,6 +77,27 @@ post_in (while_true e) = None
 post_in (counting init test1 post) = post
 post_in (ranging t pos e) = None
 
+-- ---- loops
+
+-- whether the variables of a header are carried on to the next iteration: those of an init statement are
+abbrev pub carries : Clause → Bool
+carries forever = false
+carries (while_true e) = false
+carries (counting init test1 post) = true
+carries (ranging t pos e) = false
+
+-- what stands in the header of a loop and in its body is one loop deeper than the loop
+abbrev pub looping : Scope → Clause → Scope
+looping s c = with_setting s (in_header (carries c) s.setting)
+
+-- the block of the body, after the header
+abbrev pub body_opened : Scope → Scope
+body_opened s = opened (with_setting s (in_body s.setting))
+
+-- after a loop, where the first scope was before it
+abbrev pub behind_loop : Scope → Scope → Scope
+behind_loop s r = with_setting r s.setting
+
 module _ (text : List ℕ) where
   -- ---- headers of `if` and `for`
 
@@ -110,7 +131,7 @@ module _ (text : List ℕ) where
   abbrev pub guard_head : Scope → Guard → Option Choice
   guard_head s g = choice_head (init_statement s g.init) (condition text (header s g.init) g.condition)
 
-  -- the scope of a loop's body, around its block: after the header
+  -- the scope of a loop's body, around its block: after the header, which begins in a scope of the loop
   abbrev pub clause_scope : Scope → Clause → Scope
   clause_scope s forever = opened s
   clause_scope s (while_true e) = opened s
@@ -131,7 +152,7 @@ module _ (text : List ℕ) where
     behind s (tree.simple m) = behind_simple text s m
     behind s (tree.block ms) = closed (behind_all (opened s) ms)
     behind s (tree.if_stmt pos g body rest) = closed (behind_else (closed (behind_all (opened (header s g.init)) body)) rest)
-    behind s (tree.for_stmt pos c body) = closed (closed (behind_all (opened (clause_scope s c)) body))
+    behind s (tree.for_stmt pos c body) = behind_loop s (closed (closed (behind_all (body_opened (clause_scope (looping s c) c)) body)))
     behind s (tree.break_stmt pos) = s
     behind s (tree.continue_stmt pos) = s
     behind s (tree.return_stmt pos es) = s
@@ -156,7 +177,7 @@ module _ (text : List ℕ) where
       statement looped s (tree.if_stmt pos g body rest) =
           option_map alone
           (choice_of (guard_head s g) (statements looped (opened (header s g.init)) body) (alternative looped (closed (behind_all (opened (header s g.init)) body)) rest))
-      statement looped s (tree.for_stmt pos c body) = option_map alone (loop_of (clause_head s c) (statements true (opened (clause_scope s c)) body))
+      statement looped s (tree.for_stmt pos c body) = option_map alone (loop_of (clause_head (looping s c) c) (statements true (body_opened (clause_scope (looping s c) c)) body))
       statement looped s (tree.break_stmt pos) = allowed looped (Some (alone break_stmt))
       statement looped s (tree.continue_stmt pos) = allowed looped (Some (alone continue_stmt))
       statement looped s (tree.return_stmt pos es) = option_map alone (returned r (seen text s es))

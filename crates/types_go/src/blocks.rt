@@ -16,7 +16,7 @@ ghost use Rattle.signatures.specs.Failing.{fault_where};
 ghost use Rattle.types_go.specs.StatementFaults.{FailsInStatement, FailsInElse, FailsInStatements};
 ghost use Rattle.types_go.specs.StatementPassing.{choice_view, range_view, head_view, with_more};
 
-use crate::heads::{Choice, Guarded, Head, Headed, alone, check_clause, check_guard};
+use crate::heads::{Choice, Guarded, Head, Headed, alone, carries, check_clause, check_guard};
 use crate::ranges::Range;
 use base::{NoMemory, Pos, SiteId};
 use names::Scope;
@@ -302,12 +302,18 @@ fn check_stmt(
             choice(alloc, head, body, rest)
         }
         Stmt::For(pos, clause, body) => {
+            let around = scope.setting;
+            let in_header = around.in_header(carries(clause))?;
+            scope.setting = in_header;
             let head = check_clause(alloc, text, scope, *pos, clause)?;
+            let in_body = scope.setting.in_body();
+            scope.setting = in_body;
             let Ok(body) = check_inner(alloc, text, returns, true, scope, body) else {
                 drop(head);
                 return Err(NoMemory);
             };
             scope.close();
+            scope.setting = around;
             for_clause(alloc, head, body)
         }
         Stmt::Return(pos, es) => {

@@ -21,7 +21,7 @@ pub fn check(alloc: Global, tree: &Tree) -> Result<Program, TypeFault>
     ensures in_form { IfOk result (λ p. IsInForm (program_of p)) }
 
     // Each variable has a site at its name, and each function stands at its own.
-    ensures sites { IfOk result (λ p. AreSites (syntax_of tree.now) p.sites.items) }
+    ensures sites { IfOk result (λ p. AreSites (syntax_of tree.now) p.sites.items p.names.items) }
     ensures places { IfOk result (λ p. AreAtNames (syntax_of tree.now) (map (λ f. f.pos) p.funcs.items)) }
 
     // Where a program is answered no rule fails.
@@ -37,6 +37,7 @@ pub fn check(alloc: Global, tree: &Tree) -> Result<Program, TypeFault>
         main,
         funcs,
         sites,
+        names,
         types,
         strings,
         globals,
@@ -54,6 +55,7 @@ pub fn check(alloc: Global, tree: &Tree) -> Result<Program, TypeFault>
                 types,
                 strings,
                 globals,
+                names,
             })
         }
     }

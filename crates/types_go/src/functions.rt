@@ -1,6 +1,6 @@
 //! Functions: their heads, their parts, and the end of their bodies; and the package variables between them.
 
-ghost use Rattle.std.specs.Prelude.{◌≡◌, ◌<◌, ◌⊎◌, Option, Some, None, IfOk, OnOk, List, map, length, drop, not, ◌-◌, ◌++◌, ◌&&◌, ◌||◌, ◌==◌};
+ghost use Rattle.std.specs.Prelude.{◌≡◌, ◌<◌, ◌⊎◌, Option, Some, None, IfOk, OnOk, List, map, length, ◌-◌, ◌++◌, ◌&&◌, ◌||◌, ◌==◌};
 ghost use Rattle.std.specs.Option.{option_map};
 ghost use Rattle.base.specs.declared.pos.Pos.{Pos as Place};
 ghost use Rattle.syntax.specs.Expressions.{ex_of, spelled};
@@ -9,8 +9,6 @@ ghost use Rattle.typed.specs.View.{func_of, value_of};
 ghost use Rattle.typed.specs.Trees.{trees};
 ghost use Rattle.typed_syntax.specs.Types.{TypeTree};
 ghost use Rattle.type_faults.specs.Least.{IsLeast};
-ghost use Rattle.type_faults.specs.Faults.{fault as fault_at, IsFault};
-ghost use Rattle.type_faults.specs.declared.fault.FaultKind.TheVariants.{OutOfProfile};
 ghost use Rattle.type_faults.specs.Given.{allowed};
 ghost use Rattle.names.specs.Universe.{is_blank};
 ghost use Rattle.names.specs.Scope.{scope_of, known, with_site};
@@ -18,12 +16,11 @@ ghost use Rattle.type_faults.specs.Given.{with_last};
 ghost use Rattle.function_heads.specs.Assembled.{IsAt};
 ghost use Rattle.types_go.specs.Passing.{AreAt, member_views, global_view};
 ghost use Rattle.package_values.specs.Passing.{item_of};
-ghost use Rattle.signatures.specs.Failing.{fault_where};
 ghost use Rattle.given_values.specs.Given.{wanted_by};
 ghost use Rattle.simple_statements.specs.SimpleStatements.{returns_view};
 ghost use Rattle.signatures.specs.Signatures.{is_named};
 ghost use Rattle.types_go.specs.Functions.{returns_of, may_end, parts, function_with, function, functions_of, type_or_int, int_in, truth_in, begins, behind_variable, initial, globals_of, functions, globals, behind_body, behind_function, behind_members};
-ghost use Rattle.types_go.specs.FunctionFaults.{FailsInParts, FailsWith, FailsInFunction, is_framed, LargeFails, MembersFail};
+ghost use Rattle.types_go.specs.FunctionFaults.{FailsInParts, FailsWith, FailsInFunction, FailsInFunctions};
 
 use crate::blocks::check_stmts;
 use crate::members::Member;
@@ -40,10 +37,7 @@ use std::alloc::Global;
 use syntax::{Body, Expr, Func, Params};
 use terminating::ends_in_terminating;
 use type_faults::{Fault, FaultKind, lesser};
-use typed::{Const, PackageVariable, Site, TypeTable};
-
-/// The most words of a variable of a function: one of more has no place in a frame, and none elsewhere yet.
-const MOST_WORDS: u32 = 8192;
+use typed::{Const, PackageVariable, SiteKind};
 
 /// What is known of a function: its typed form, and the fault that is reported of it.
 #[derive(Drop)]
@@ -120,11 +114,19 @@ fn check_parts(
     let param_slots = slots_of(alloc, text, heads, &f.params)?;
     let result_slots = slots_of(alloc, text, heads, &f.results)?;
     let returns = returns_of(alloc, &f.results, &result_slots)?;
+    let after = scope.setting.after_function()?;
+    let of_params = scope.setting.declaring(SiteKind::Parameter);
+    scope.setting = of_params;
     scope.open()?;
     let params = check_entries(alloc, text, scope, Role::Parameter, &param_slots)?;
+    let of_results = scope.setting.declaring(SiteKind::Result);
+    scope.setting = of_results;
     let results = check_entries(alloc, text, scope, Role::Result, &result_slots)?;
+    let of_variables = scope.setting.declaring(SiteKind::Variable);
+    scope.setting = of_variables;
     let lines = check_stmts(alloc, text, &returns, false, scope, &body.statements)?;
     scope.close();
+    scope.setting = after;
     let fault = lesser(lesser(params.fault, results.fault), lines.fault);
     let func = assemble(
         alloc,
@@ -316,7 +318,8 @@ fn check_named(
     item: &Item,
 ) -> Result<PackageVariable, NoMemory>
     ensures scope { OnOk result (scope_of scope.new
-        ≡ with_site (scope_of scope.old) (type_or_int (known (scope_of scope.old) number.0)) item.now.name.pos) }
+        ≡ with_site (scope_of scope.old) (scope_of scope.old).setting (spelled text.now item.now.name)
+        (type_or_int (known (scope_of scope.old) number.0)) item.now.name.pos) }
     ensures global { IfOk result (λ g. global_view g
         ≡ (
           length (scope_of scope.old).sites,
@@ -327,7 +330,12 @@ fn check_named(
     let value_type = type_or_int(scope.known(number));
     let initial = initial(alloc, text, scope, item.value)?;
     let site = scope.next_site()?;
-    scope.add_site(value_type, item.name.pos)?;
+    scope.add_site(
+        scope.setting,
+        spelled(text, item.name),
+        value_type,
+        item.name.pos,
+    )?;
     Ok(PackageVariable {
         site,
         value: begins(value_type, initial),
@@ -355,29 +363,6 @@ fn check_variable(
     Ok(())
 }
 
-/// The fault of a variable of a function that has more words than a frame takes.
-#[tactic(auto, using(type_faults::proofs::Leasts::leaf))]
-fn site_fault(types: &TypeTable, site: Site) -> Option<Fault>
-    ensures { IsLeast (IsFault (fault_where (not (is_framed types.now site)) (fault_at OutOfProfile site.pos))) result }
-{
-    let own = Fault {
-        kind: FaultKind::OutOfProfile,
-        pos: site.pos,
-    };
-    fault_where(!(types.width(site.type_id) <= MOST_WORDS), own)
-}
-
-/// The fault of the variables of a function, whose sites stand from one on.
-fn large_fault(types: &TypeTable, sites: &[Site], first: usize) -> Option<Fault>
-    ensures { IsLeast (LargeFails types.now (drop first sites.now)) result }
-{
-    let mut fault = None;
-    for index in first..sites.len() {
-        fault = lesser(fault, site_fault(types, sites[index]));
-    }
-    fault
-}
-
 /// The functions and the variables of a package, one after the other.
 pub fn check_members(
     alloc: Global,
@@ -394,23 +379,20 @@ pub fn check_members(
     ensures places { IfOk result (λ r. AreAt (map (λ f. f.name.pos) (functions_of (member_views members.now)))
         (option_map (λ v. v.items) r.funcs)) }
     ensures fault { IfOk result (λ r. IsLeast
-        (MembersFail text.now (scope_of heads.now) (scope_of scope.old) (member_views members.now)) r.fault) }
+        (FailsInFunctions text.now (scope_of heads.now) (scope_of scope.old) 0 (member_views members.now)) r.fault) }
     ensures scope { OnOk result (scope_of scope.new
         ≡ behind_members text.now (scope_of heads.now) (scope_of scope.old) (member_views members.now)) }
 {
     let mut funcs = Some(Vec::new(alloc));
     let mut globals = Vec::new(alloc);
     let mut fault = None;
-    let mut large = None;
     let mut number: usize = 0;
     for member in members {
         match member {
             Member::Function(f) => {
-                let first = scope.site_count();
                 let checked = check_function(alloc, text, heads, scope, number, f)?;
                 funcs = with_func(funcs, checked.func)?;
                 fault = lesser(fault, checked.fault);
-                large = lesser(large, large_fault(&heads.types, &scope.sites, first));
                 number += 1;
             }
             Member::Variable(value, item) => {
@@ -421,6 +403,6 @@ pub fn check_members(
     Ok(Members {
         funcs,
         globals,
-        fault: lesser(fault, large),
+        fault,
     })
 }

@@ -11,7 +11,7 @@ ghost use Rattle.expression_types.specs.Typing.{test, condition_in};
 ghost use Rattle.expression_types.specs.Faults.{FailsInTest};
 ghost use Rattle.types_go.specs.Ranges.{behind_range, range_in};
 ghost use Rattle.types_go.specs.RangeFaults.{FailsInRange};
-ghost use Rattle.types_go.specs.Statements.{range_clause, alone, header, init_statement, post_simple, post_statement, behind_post_simple, behind_post, guard_head, choice_head, loop_head, clause_scope, clause_head};
+ghost use Rattle.types_go.specs.Statements.{carries, range_clause, alone, header, init_statement, post_simple, post_statement, behind_post_simple, behind_post, guard_head, choice_head, loop_head, clause_scope, clause_head};
 ghost use Rattle.types_go.specs.StatementFaults.{FailsInInit, PostFails, FailsInPost, FailsInClause, FailsInGuard};
 ghost use Rattle.types_go.specs.StatementPassing.{choice_view, head_view};
 
@@ -296,6 +296,18 @@ fn check_ranging(
         head: found.range.map(Head::RangeClause),
         fault: found.fault,
     })
+}
+
+/// Whether the variables of a header are carried on to the next iteration.
+pub fn carries(clause: &Clause) -> bool
+    ensures { result ≡ carries (clause_of clause.now) }
+{
+    match clause {
+        Clause::Counting(_, _, _) => true,
+        Clause::Forever => false,
+        Clause::While(_) => false,
+        Clause::Range(_, _, _) => false,
+    }
 }
 
 /// The header of a `for` whose word stands at a place. Its block is open after it.

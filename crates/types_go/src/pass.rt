@@ -129,13 +129,14 @@ fn rule_or_open(rules: Option<Fault>, others: Option<Fault>) -> Option<Fault>
     }
 }
 
-/// What the pass finds: the number of `main`, the typed functions, where all have a typed form, the sites, the types, the
-/// strings, the package variables with a name, and the fault.
+/// What the pass finds: the number of `main`, the typed functions, where all have a typed form, the sites and the bytes of their names, the
+/// types, the strings, the package variables with a name, and the fault.
 #[derive(Drop)]
 pub struct Passed {
     pub main: Option<FuncId>,
     pub funcs: Option<Vec<typed::Func>>,
     pub sites: Vec<Site>,
+    pub names: Vec<u8>,
     pub types: TypeTable,
     pub strings: Vec<Vec<u8>>,
     pub globals: Vec<PackageVariable>,
@@ -145,7 +146,7 @@ pub struct Passed {
 /// The pass over a text with the name of its package and its declarations.
 pub fn pass(alloc: Global, text: &[u8], own_name: Name, decls: &[Decl]) -> Result<Passed, NoMemory>
     ensures { IfOk result (λ r. IsPassed (syntax_with text.now own_name (declarations_of decls.now))
-        (option_map (λ f. f.0) r.main) (option_map (λ v. v.items) r.funcs) r.sites.items r.types
+        (option_map (λ f. f.0) r.main) (option_map (λ v. v.items) r.funcs) r.sites.items r.names.items r.types
         (map (λ string. string.items) r.strings.items) r.globals.items r.fault) }
 {
     let Names { heads, sizes_fault } = package_names(alloc, text, decls)?;
@@ -166,6 +167,7 @@ pub fn pass(alloc: Global, text: &[u8], own_name: Name, decls: &[Decl]) -> Resul
         main,
         funcs: checked.funcs,
         sites: scope.sites,
+        names: scope.site_names,
         types: heads.types,
         strings: scope.strings,
         globals: checked.globals,

@@ -605,7 +605,7 @@ fn add_copy(scope: &mut Scope, value_type: Option<ValueType>, pos: Pos) -> Resul
     ensures { OnOk result (scope_of scope.new ≡ behind_copy (scope_of scope.old) value_type pos) }
 {
     match value_type {
-        Some(value_type) => scope.add_site(value_type, pos),
+        Some(value_type) => scope.add_site(scope.setting.of_copy(), &[], value_type, pos),
         None => Ok(()),
     }
 }

@@ -8,14 +8,14 @@ use Rattle.syntax.specs.Expressions.{exs_of}
 use Rattle.syntax.proofs.Views.{stmt_rows}
 use Rattle.type_faults.specs.Least.{IsLeast, lesser}
 use Rattle.type_faults.proofs.Leasts.{if_ok}
-use Rattle.names.specs.Scope.{Scope, scope_of, opened, closed}
+use Rattle.names.specs.Scope.{Scope, scope_of, in_header, in_body, with_setting, opened, closed}
 use Rattle.types_go.proofs.blocks.+statements.Goals as goal
 use Rattle.simple_statements.specs.SimpleStatements.{returns_view}
 use Rattle.simple_statements.specs.SimpleFaults.{FailsInSpecs}
 use Rattle.typed.specs.View.{sts_of}
 use Rattle.types_go.specs.StatementPassing.{choice_view}
-use Rattle.types_go.specs.Statements.{alone, choice_of, guard_head, statement, statements, alternative, header, clause_scope, behind_all}
-use Rattle.types_go.specs.StatementFaults.{FailsInStatement, FailsInStatements, FailsInElse}
+use Rattle.types_go.specs.Statements.{alone, choice_of, guard_head, looping, body_opened, statement, statements, alternative, header, clause_scope, behind_all}
+use Rattle.types_go.specs.StatementFaults.{FailsInClause, FailsInStatement, FailsInStatements, FailsInElse}
 use Rattle.types_go.proofs.StatementGrowth.{grows_header, grows_clause, grows_all, keeps_block, keeps_else}
 use Rattle.types_go.proofs.Sequences.{choice_least, loop_least, KeptStatements, split, nothing_left, one_more, given_all, at_end}
 
@@ -97,7 +97,12 @@ check_stmt-close-requires t c =
 pub check_stmt-check_inner-requires-in-For : goal.check_stmt-check_inner-requires-in-For
 check_stmt-check_inner-requires-in-For t c =
     let inside : 0 < length c.check_clause.new.scope.names =
-    omega (arith, c.requires, (grows_clause c.args.text.now (scope_of c.args.scope.now) (clause_of c.in-For.clause)).depth, ap (λ (v : Scope). length v.blocks) c.in_ok-head-in-For.ensures.scope) in
+    omega (
+      arith,
+      c.requires,
+      (grows_clause c.args.text.now (with_setting (scope_of c.args.scope.now) c.in_ok-in_header-in-For.in_header) (clause_of c.in-For.clause)).depth,
+      ap (λ (v : Scope). length v.blocks) c.in_ok-head-in-For.ensures.scope,
+    ) in
     search (rules, stmt_rows, inside)
 
 pub check_stmt-close-requires-in-For : goal.check_stmt-close-requires-in-For
@@ -105,9 +110,9 @@ check_stmt-close-requires-in-For t c =
     omega (
       arith,
       c.requires,
-      (grows_clause c.args.text.now (scope_of c.args.scope.now) (clause_of c.in-For.clause)).depth,
+      (grows_clause c.args.text.now (with_setting (scope_of c.args.scope.now) c.in_ok-in_header-in-For.in_header) (clause_of c.in-For.clause)).depth,
       ap (λ (v : Scope). length v.blocks) c.in_ok-head-in-For.ensures.scope,
-      ap length (keeps_block c.args.text.now (scope_of c.check_clause.new.scope) (stms_of c.deref-in-For.result.now)).blocks,
+      ap length (keeps_block c.args.text.now (with_setting (scope_of c.check_clause.new.scope) c.in_body-in_body.result) (stms_of c.deref-in-For.result.now)).blocks,
       ap (λ (v : Scope). length v.blocks) c.in-Ok.ensures.scope,
     )
 
@@ -218,18 +223,24 @@ check_stmt-returns-in-Ok-clause-fault t c =
     let s = scope_of c.args.scope.now in
     let at = c.in-For.pos in
     let clause = clause_of c.in-For.clause in
-    let h = clause_scope text s clause in
+    let l = looping s clause in
+    let h = clause_scope text l clause in
     let ms = stms_of c.in-For.body.items in
     let head = c.in_ok-head-in-For.head in
     let body = c.in-Ok.body in
     let shape : stm_of c.args.s.now ≡ for_stmt at clause ms = grind (arith, stmt_rows) in
-    let h_is : scope_of c.check_clause.new.scope ≡ h = c.in_ok-head-in-For.ensures.scope in
-    let b : IsLeast (FailsInStatements text rets true (opened h) ms) body.fault =
-    subst (λ (v : Scope). IsLeast (FailsInStatements text rets true (opened v) ms) body.fault) h_is
-    (subst (λ (l : List Stmt). IsLeast (FailsInStatements text rets true (opened (scope_of c.check_clause.new.scope)) (stms_of l)) body.fault) c.deref-in-For.ensures.value c.in-Ok.ensures.fault) in
+    let l_is : with_setting s c.in_ok-in_header-in-For.in_header ≡ l =
+    ap (with_setting s) c.in_ok-in_header-in-For.ensures ∙ ap (λ b. with_setting s (in_header b s.setting)) c.carries.ensures in
+    let h_is : scope_of c.check_clause.new.scope ≡ h = c.in_ok-head-in-For.ensures.scope ∙ ap (λ (v : Scope). clause_scope text v clause) l_is in
+    let begun : with_setting (scope_of c.check_clause.new.scope) c.in_body-in_body.result ≡ with_setting h (in_body h.setting) =
+    ap (with_setting (scope_of c.check_clause.new.scope)) c.in_body-in_body.ensures ∙ ap (λ (v : Scope). with_setting v (in_body v.setting)) h_is in
+    let a : IsLeast (FailsInClause text l at clause) head.fault = subst (λ (v : Scope). IsLeast (FailsInClause text v at clause) head.fault) l_is c.in_ok-head-in-For.ensures.fault in
+    let b : IsLeast (FailsInStatements text rets true (body_opened h) ms) body.fault =
+    subst (λ (v : Scope). IsLeast (FailsInStatements text rets true (opened v) ms) body.fault) begun
+    (subst (λ (l : List Stmt). IsLeast (FailsInStatements text rets true (opened (with_setting (scope_of c.check_clause.new.scope) c.in_body-in_body.result)) (stms_of l)) body.fault) c.deref-in-For.ensures.value c.in-Ok.ensures.fault) in
     let whole : IsLeast (FailsInStatement text rets looped s (stm_of c.args.s.now)) (lesser head.fault body.fault) =
     subst (λ (x : Stm). IsLeast (FailsInStatement text rets looped s x) (lesser head.fault body.fault)) (sym shape)
-    (loop_least text rets looped s at clause ms head.fault body.fault c.in_ok-head-in-For.ensures.fault b) in
+    (loop_least text rets looped s at clause ms head.fault body.fault a b) in
     if_ok _ (λ l. IsLeast (FailsInStatement text rets looped s (stm_of c.args.s.now)) l.fault) c.for_clause.result (λ l e. subst (λ f. IsLeast (FailsInStatement text rets looped s (stm_of c.args.s.now)) f) (sym e) whole) c.for_clause.ensures.fault
 
 pub check_else-returns-in-Block-clause-fault : goal.check_else-returns-in-Block-clause-fault

@@ -1,18 +1,14 @@
-use Rattle.std.proofs.Common.{◌≡◌, ℕ, [], ◌∷◌, ◌+◌, List, drop, refl, sym, ap, ◌∙◌, subst, arith}
+use Rattle.std.proofs.Common.{◌≡◌, [], ◌∷◌, ◌+◌, List, drop, refl, sym, ap, ◌∙◌, subst, arith}
 use Rattle.std.specs.Option.{option_map}
 use Rattle.syntax.specs.Declarations.{function_of}
-use Rattle.names.specs.Scope.{Scope, scope_of}
-use Rattle.typed.specs.declared.program.Site.{Site}
-use Rattle.type_faults.specs.Least.{IsLeast}
-use Rattle.type_faults.proofs.Leasts.{kept_start, least_join}
+use Rattle.names.specs.Scope.{scope_of}
 use Rattle.type_faults.proofs.Lists.{from_one, nothing_left}
 use Rattle.package_values.specs.Passing.{item_of}
 use Rattle.types_go.specs.declared.members.Member.{Member as MemberData}
-use Rattle.types_go.specs.Functions.{behind_function, behind_members}
-use Rattle.types_go.specs.FunctionFaults.{LargeFails, sites_of_function}
+use Rattle.types_go.specs.Functions.{behind_members}
 use Rattle.types_go.specs.Passing.{member_of, member_views}
 use Rattle.types_go.proofs.functions.check_members.Goals as goal
-use Rattle.types_go.proofs.Walk.{MembersKept, GlobalsKept, LargeKept, members_start, large_more, large_all, function_more, variable_more, globals_more, globals_all, functions_all, fault_all, places_are}
+use Rattle.types_go.proofs.Walk.{MembersKept, GlobalsKept, members_start, function_more, variable_more, globals_more, globals_all, functions_all, fault_all, places_are}
 use Rattle.types_go.proofs.functions.check_members.Goals.{in-Function+in_ok-checked-in-Function+in_ok-funcs-in-Function, in-Variable+in_ok-check_variable-in-Variable}
 
 pub check_function-requires : goal.check_function-requires
@@ -22,7 +18,6 @@ pub loop-member-init : goal.loop-member-init
 loop-member-init c = (
   rw (c.new.ensures.items) (members_start c.args.text.now (scope_of c.args.heads.now) (scope_of c.args.scope.now) (member_views c.args.members.now) c.requires),
   rw (c.new-globals.ensures.items) refl,
-  kept_start _,
   omega arith,
 )
 
@@ -45,8 +40,6 @@ loop-member-preserved c =
     subst (λ (l : List MemberData). MembersKept text heads start all (member_views l) s i so_far c.loop-member.fault) here c.loop-member.invariant.0 in
     let before : GlobalsKept text heads start all (member_of x ∷ rest) s gs =
     subst (λ (l : List MemberData). GlobalsKept text heads start all (member_views l) s gs) here c.loop-member.invariant.1 in
-    let large : LargeKept text heads start all (member_of x ∷ rest) s c.loop-member.large =
-    subst (λ (l : List MemberData). LargeKept text heads start all (member_views l) s c.loop-member.large) here c.loop-member.invariant.2 in
     elim c.match-member.branch [
       | in-Function+in_ok-checked-in-Function+in_ok-funcs-in-Function w ↦
           let found = w.in_ok-checked-in-Function.ensures in
@@ -54,17 +47,10 @@ loop-member-preserved c =
           let g = function_of w.in-Function.f.now in
           let next1 = subst (λ (m : MemberData). MembersKept text heads start all (member_of m ∷ rest) s i so_far c.loop-member.fault) w.in-Function.is ahead in
           let next2 = subst (λ (m : MemberData). GlobalsKept text heads start all (member_of m ∷ rest) s gs) w.in-Function.is before in
-          let next3 = subst (λ (m : MemberData). LargeKept text heads start all (member_of m ∷ rest) s c.loop-member.large) w.in-Function.is large in
-          let sites_are : w.deref.result.now ≡ (behind_function text heads s g).sites =
-          w.deref.ensures.value ∙ ap (λ (r : Scope). r.sites) found.scope in
-          let own : IsLeast (LargeFails heads.types (sites_of_function text heads s g)) w.large_fault.result =
-          subst (λ (n : ℕ). IsLeast (LargeFails heads.types (drop n (behind_function text heads s g).sites)) w.large_fault.result) w.site_count-first.ensures
-          (subst (λ (l : List Site). IsLeast (LargeFails heads.types (drop w.site_count-first.result l)) w.large_fault.result) sites_are w.large_fault.ensures) in
-          rw (w.scope-is, w.funcs-is, w.fault-is, w.large-is, w.number-is, w.globals-is, found.scope, w.in_ok-funcs-in-Function.ensures, w.lesser-fault.ensures, w.lesser-large.ensures) (
+          rw (w.scope-is, w.funcs-is, w.fault-is, w.number-is, w.globals-is, found.scope, w.in_ok-funcs-in-Function.ensures, w.lesser-fault.ensures) (
             function_more text heads start all g rest s i so_far checked.func c.loop-member.fault checked.fault next1 found.func found.pos found.fault,
             next2,
-            large_more text heads start all g rest s c.loop-member.large w.large_fault.result next3 own,
-            omega (arith, c.loop-member.invariant.3),
+            omega (arith, c.loop-member.invariant.2),
           )
       | in-Variable+in_ok-check_variable-in-Variable w ↦
           let found = w.in_ok-check_variable-in-Variable.ensures in
@@ -72,12 +58,10 @@ loop-member-preserved c =
           let n = w.in-Variable.value.0 in
           let next1 = subst (λ (m : MemberData). MembersKept text heads start all (member_of m ∷ rest) s i so_far c.loop-member.fault) w.in-Variable.is ahead in
           let next2 = subst (λ (m : MemberData). GlobalsKept text heads start all (member_of m ∷ rest) s gs) w.in-Variable.is before in
-          let next3 = subst (λ (m : MemberData). LargeKept text heads start all (member_of m ∷ rest) s c.loop-member.large) w.in-Variable.is large in
-          rw (w.scope-is, w.funcs-is, w.fault-is, w.large-is, w.number-is, w.globals-is, found.scope) (
+          rw (w.scope-is, w.funcs-is, w.fault-is, w.number-is, w.globals-is, found.scope) (
             variable_more text heads start all n v rest s i so_far c.loop-member.fault next1,
             globals_more text heads start all n v rest s gs _ next2 found.globals,
-            next3,
-            omega (arith, c.loop-member.invariant.3),
+            omega (arith, c.loop-member.invariant.2),
           )
     ]
 
@@ -122,12 +106,8 @@ returns-clause-fault c =
     let s = scope_of c.loop-member.scope in
     let xs = c.args.members.now in
     let none : drop c.loop-member.member-index xs ≡ [] = nothing_left xs c.loop-member.member-index (λ l. absurd (omega (arith, l, c.loop-member-test.false))) in
-    rw (c.lesser.ensures)
-    (least_join _ _ c.loop-member.fault c.loop-member.large
-    (fault_all text heads start (member_views xs) s c.loop-member.number (option_map (λ v. v.items) c.loop-member.funcs) c.loop-member.fault
-    (subst (λ (l : List MemberData). MembersKept text heads start (member_views xs) (member_views l) s c.loop-member.number (option_map (λ v. v.items) c.loop-member.funcs) c.loop-member.fault) none c.loop-member.invariant.0))
-    (large_all text heads start (member_views xs) s c.loop-member.large
-    (subst (λ (l : List MemberData). LargeKept text heads start (member_views xs) (member_views l) s c.loop-member.large) none c.loop-member.invariant.2)))
+    fault_all text heads start (member_views xs) s c.loop-member.number (option_map (λ v. v.items) c.loop-member.funcs) c.loop-member.fault
+    (subst (λ (l : List MemberData). MembersKept text heads start (member_views xs) (member_views l) s c.loop-member.number (option_map (λ v. v.items) c.loop-member.funcs) c.loop-member.fault) none c.loop-member.invariant.0)
 
 pub returns-clause-scope : goal.returns-clause-scope
 returns-clause-scope c =

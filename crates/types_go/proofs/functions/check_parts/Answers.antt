@@ -8,7 +8,8 @@ use Rattle.syntax.specs.declared.statement.Stmt.{Stmt}
 use Rattle.typed.specs.View.{site_in, sts_of}
 use Rattle.type_faults.specs.Least.{IsLeast, lesser}
 use Rattle.type_faults.proofs.Leasts.{least_join}
-use Rattle.names.specs.Scope.{Scope, scope_of, opened, closed}
+use Rattle.typed.specs.declared.program.SiteKind.TheVariants as kind
+use Rattle.names.specs.Scope.{Scope, scope_of, after_function, with_setting, opened, closed}
 use Rattle.types_go.proofs.functions.check_parts.Goals as goal
 use Rattle.signatures.specs.declared.slots.Slot.{Slot}
 use Rattle.signatures.specs.declared.entries.Role.TheVariants.{Parameter, Result}
@@ -21,7 +22,7 @@ use Rattle.given_values.specs.Given.{wanted_by}
 use Rattle.simple_statements.specs.SimpleStatements.{Returns, returns_view}
 use Rattle.types_go.specs.Statements.{statements, behind_all}
 use Rattle.types_go.specs.StatementFaults.{FailsInStatements}
-use Rattle.types_go.specs.Functions.{param_entries, result_entries, behind_params, body_scope, behind_body, returns_of, body_of}
+use Rattle.types_go.specs.Functions.{param_entries, result_entries, declares, params_opened, behind_params, body_scope, behind_body, returns_of, body_of}
 use Rattle.types_go.proofs.StatementGrowth.{grows_all}
 use Rattle.types_go.proofs.Lines.{parts_of}
 
@@ -41,7 +42,7 @@ check_stmts-requires c =
       ap (λ (v : Scope). length v.blocks) c.in_ok-open.ensures,
       (grows_entries text (scope_of c.open.new.self) c.deref-2.result.now).depth,
       ap (λ (v : Scope). length v.blocks) c.in_ok-params.ensures.scope,
-      (grows_entries text (scope_of c.check_entries.new.scope) c.deref-3.result.now).depth,
+      (grows_entries text (with_setting (scope_of c.check_entries.new.scope) c.declaring-of_results.result) c.deref-3.result.now).depth,
       ap (λ (v : Scope). length v.blocks) c.in_ok-results.ensures.scope,
     )
 
@@ -55,9 +56,9 @@ close-requires c =
       ap (λ (v : Scope). length v.blocks) c.in_ok-open.ensures,
       (grows_entries text (scope_of c.open.new.self) c.deref-2.result.now).depth,
       ap (λ (v : Scope). length v.blocks) c.in_ok-params.ensures.scope,
-      (grows_entries text (scope_of c.check_entries.new.scope) c.deref-3.result.now).depth,
+      (grows_entries text (with_setting (scope_of c.check_entries.new.scope) c.declaring-of_results.result) c.deref-3.result.now).depth,
       ap (λ (v : Scope). length v.blocks) c.in_ok-results.ensures.scope,
-      (grows_all text (scope_of c.check_entries-2.new.scope) (stms_of c.deref-4.result.now)).depth,
+      (grows_all text (with_setting (scope_of c.check_entries-2.new.scope) c.declaring-of_variables.result) (stms_of c.deref-4.result.now)).depth,
       ap (λ (v : Scope). length v.blocks) c.in_ok-lines.ensures.scope,
     )
 
@@ -73,23 +74,30 @@ returns-clause-func c =
     let body = option_map (λ v. sts_of v.items) c.in_ok-lines.lines.statements in
     let ps_are : c.deref-2.result.now ≡ slots_of text heads g.params = c.deref-2.ensures.value ∙ c.in_ok-param_slots.ensures in
     let rs_are : c.deref-3.result.now ≡ slots_of text heads g.results = c.deref-3.ensures.value ∙ c.in_ok-result_slots.ensures in
-    let open1 : scope_of c.open.new.self ≡ opened s = c.in_ok-open.ensures in
-    let behind1 : scope_of c.check_entries.new.scope ≡ behind_params text heads s g =
-    c.in_ok-params.ensures.scope ∙ ap (λ v. behind_entries text v c.deref-2.result.now) open1 ∙ ap (λ (l : List Slot). behind_entries text (opened s) l) ps_are in
-    let behind2 : scope_of c.check_entries-2.new.scope ≡ body_scope text heads s g =
+    let open1 : scope_of c.open.new.self ≡ params_opened s = c.in_ok-open.ensures ∙ ap (λ x. opened (with_setting s x)) c.declaring-of_params.ensures in
+    let after1 : scope_of c.check_entries.new.scope ≡ behind_entries text (params_opened s) (slots_of text heads g.params) =
+    c.in_ok-params.ensures.scope ∙ ap (λ v. behind_entries text v c.deref-2.result.now) open1 ∙ ap (λ (l : List Slot). behind_entries text (params_opened s) l) ps_are in
+    let with_results = with_setting (scope_of c.check_entries.new.scope) c.declaring-of_results.result in
+    let behind1 : with_results ≡ behind_params text heads s g =
+    ap (with_setting (scope_of c.check_entries.new.scope)) c.declaring-of_results.ensures ∙ ap (declares kind.Result) after1 in
+    let after2 : scope_of c.check_entries-2.new.scope ≡ behind_entries text (behind_params text heads s g) (slots_of text heads g.results) =
     c.in_ok-results.ensures.scope ∙ ap (λ v. behind_entries text v c.deref-3.result.now) behind1 ∙ ap (λ (l : List Slot). behind_entries text (behind_params text heads s g) l) rs_are in
+    let with_variables = with_setting (scope_of c.check_entries-2.new.scope) c.declaring-of_variables.result in
+    let behind2 : with_variables ≡ body_scope text heads s g =
+    ap (with_setting (scope_of c.check_entries-2.new.scope)) c.declaring-of_variables.ensures ∙ ap (declares kind.Variable) after2 in
     let ps : params ≡ param_entries text heads s g =
-    c.in_ok-params.ensures.entries ∙ ap (λ v. entries text Parameter v c.deref-2.result.now) open1 ∙ ap (λ (l : List Slot). entries text Parameter (opened s) l) ps_are in
+    c.in_ok-params.ensures.entries ∙ ap (λ v. entries text Parameter v c.deref-2.result.now) open1 ∙ ap (λ (l : List Slot). entries text Parameter (params_opened s) l) ps_are in
     let rs : results ≡ result_entries text heads s g =
     c.in_ok-results.ensures.entries ∙ ap (λ v. entries text Result v c.deref-3.result.now) behind1 ∙ ap (λ (l : List Slot). entries text Result (behind_params text heads s g) l) rs_are in
     let range_clause : c.deref.result.now ≡ slots_of text heads g.results = c.deref.ensures.value ∙ c.in_ok-result_slots.ensures in
     let given = returns_view c.in_ok-returns.returns in
     let returns : given ≡ returns_of text heads g = returns_is text heads g given c.deref.result.now c.in_ok-returns.ensures range_clause in
     let typed : body ≡ body_of text heads s g b =
-    c.in_ok-lines.ensures.statements ∙ ap (λ x. statements text x false (scope_of c.check_entries-2.new.scope) (stms_of c.deref-4.result.now)) returns
+    c.in_ok-lines.ensures.statements ∙ ap (λ x. statements text x false with_variables (stms_of c.deref-4.result.now)) returns
     ∙ ap (λ v. statements text (returns_of text heads g) false v (stms_of c.deref-4.result.now)) behind2 ∙ ap (λ (l : List Stmt). statements text (returns_of text heads g) false (body_scope text heads s g) (stms_of l)) c.deref-4.ensures.value in
-    let whole : scope_of c.close.new.self ≡ behind_body text heads s g (Some b) =
-    c.close.ensures ∙ ap closed (c.in_ok-lines.ensures.scope ∙ ap (λ v. behind_all text v (stms_of c.deref-4.result.now)) behind2 ∙ ap (λ (l : List Stmt). behind_all text (body_scope text heads s g) (stms_of l)) c.deref-4.ensures.value) in
+    let whole : with_setting (scope_of c.close.new.self) c.in_ok-after.after ≡ behind_body text heads s g (Some b) =
+    ap (with_setting (scope_of c.close.new.self)) c.in_ok-after.ensures
+    ∙ ap (λ v. with_setting v (after_function s.setting)) (c.close.ensures ∙ ap closed (c.in_ok-lines.ensures.scope ∙ ap (λ v. behind_all text v (stms_of c.deref-4.result.now)) behind2 ∙ ap (λ (l : List Stmt). behind_all text (body_scope text heads s g) (stms_of l)) c.deref-4.ensures.value)) in
     let first : c.site_count-first.result ≡ length s.sites = c.site_count-first.ensures in
     let last0 : c.site_count.result ≡ length (scope_of c.close.new.self).sites = c.site_count.ensures in
     let last : c.site_count.result ≡ length (behind_body text heads s g (Some b)).sites = last0 ∙ ap (λ (v : Scope). length v.sites) whole in
@@ -109,22 +117,28 @@ returns-clause-fault c =
     let lines = c.in_ok-lines.lines.fault in
     let ps_are : c.deref-2.result.now ≡ slots_of text heads g.params = c.deref-2.ensures.value ∙ c.in_ok-param_slots.ensures in
     let rs_are : c.deref-3.result.now ≡ slots_of text heads g.results = c.deref-3.ensures.value ∙ c.in_ok-result_slots.ensures in
-    let open1 : scope_of c.open.new.self ≡ opened s = c.in_ok-open.ensures in
-    let behind1 : scope_of c.check_entries.new.scope ≡ behind_params text heads s g =
-    c.in_ok-params.ensures.scope ∙ ap (λ v. behind_entries text v c.deref-2.result.now) open1 ∙ ap (λ (l : List Slot). behind_entries text (opened s) l) ps_are in
-    let behind2 : scope_of c.check_entries-2.new.scope ≡ body_scope text heads s g =
+    let open1 : scope_of c.open.new.self ≡ params_opened s = c.in_ok-open.ensures ∙ ap (λ x. opened (with_setting s x)) c.declaring-of_params.ensures in
+    let after1 : scope_of c.check_entries.new.scope ≡ behind_entries text (params_opened s) (slots_of text heads g.params) =
+    c.in_ok-params.ensures.scope ∙ ap (λ v. behind_entries text v c.deref-2.result.now) open1 ∙ ap (λ (l : List Slot). behind_entries text (params_opened s) l) ps_are in
+    let with_results = with_setting (scope_of c.check_entries.new.scope) c.declaring-of_results.result in
+    let behind1 : with_results ≡ behind_params text heads s g =
+    ap (with_setting (scope_of c.check_entries.new.scope)) c.declaring-of_results.ensures ∙ ap (declares kind.Result) after1 in
+    let after2 : scope_of c.check_entries-2.new.scope ≡ behind_entries text (behind_params text heads s g) (slots_of text heads g.results) =
     c.in_ok-results.ensures.scope ∙ ap (λ v. behind_entries text v c.deref-3.result.now) behind1 ∙ ap (λ (l : List Slot). behind_entries text (behind_params text heads s g) l) rs_are in
+    let with_variables = with_setting (scope_of c.check_entries-2.new.scope) c.declaring-of_variables.result in
+    let behind2 : with_variables ≡ body_scope text heads s g =
+    ap (with_setting (scope_of c.check_entries-2.new.scope)) c.declaring-of_variables.ensures ∙ ap (declares kind.Variable) after2 in
     let range_clause : c.deref.result.now ≡ slots_of text heads g.results = c.deref.ensures.value ∙ c.in_ok-result_slots.ensures in
     let given = returns_view c.in_ok-returns.returns in
     let returns : given ≡ returns_of text heads g = returns_is text heads g given c.deref.result.now c.in_ok-returns.ensures range_clause in
-    let x : IsLeast (EntriesFail text Parameter (opened s) (slots_of text heads g.params)) params =
+    let x : IsLeast (EntriesFail text Parameter (params_opened s) (slots_of text heads g.params)) params =
     subst (λ v. IsLeast (EntriesFail text Parameter v (slots_of text heads g.params)) params) open1 (subst (λ (l : List Slot). IsLeast (EntriesFail text Parameter (scope_of c.open.new.self) l) params) ps_are c.in_ok-params.ensures.fault) in
     let y : IsLeast (EntriesFail text Result (behind_params text heads s g) (slots_of text heads g.results)) results =
-    subst (λ v. IsLeast (EntriesFail text Result v (slots_of text heads g.results)) results) behind1 (subst (λ (l : List Slot). IsLeast (EntriesFail text Result (scope_of c.check_entries.new.scope) l) results) rs_are c.in_ok-results.ensures.fault) in
+    subst (λ v. IsLeast (EntriesFail text Result v (slots_of text heads g.results)) results) behind1 (subst (λ (l : List Slot). IsLeast (EntriesFail text Result with_results l) results) rs_are c.in_ok-results.ensures.fault) in
     let z : IsLeast (FailsInStatements text (returns_of text heads g) false (body_scope text heads s g) b.statements) lines =
     subst (λ q. IsLeast (FailsInStatements text q false (body_scope text heads s g) b.statements) lines) returns
     (subst (λ v. IsLeast (FailsInStatements text given false v b.statements) lines) behind2
-    (subst (λ (l : List Stmt). IsLeast (FailsInStatements text given false (scope_of c.check_entries-2.new.scope) (stms_of l)) lines) c.deref-4.ensures.value c.in_ok-lines.ensures.fault)) in
+    (subst (λ (l : List Stmt). IsLeast (FailsInStatements text given false with_variables (stms_of l)) lines) c.deref-4.ensures.value c.in_ok-lines.ensures.fault)) in
     rw (c.lesser-fault.ensures, c.lesser.ensures)
     (least_join _ (FailsInStatements text (returns_of text heads g) false (body_scope text heads s g) b.statements) (lesser params results) lines
-    (least_join (EntriesFail text Parameter (opened s) (slots_of text heads g.params)) (EntriesFail text Result (behind_params text heads s g) (slots_of text heads g.results)) params results x y) z)
+    (least_join (EntriesFail text Parameter (params_opened s) (slots_of text heads g.params)) (EntriesFail text Result (behind_params text heads s g) (slots_of text heads g.results)) params results x y) z)
