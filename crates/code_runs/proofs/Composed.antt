@@ -9,7 +9,7 @@ use Rattle.typed_syntax.specs.Syntax.{Program}
 use Rattle.typed_syntax.specs.Form.{IsInForm}
 use Rattle.meaning.specs.Trace.{Fault, Ending, Exit, Panic, Turns, StackLimit, HeapLimit}
 use Rattle.meaning.specs.Meaning.{Item}
-use Rattle.frames.specs.Placement.{Placement, IsPlaced, package_alone}
+use Rattle.frames.specs.Placement.{Placement, IsPlaced, coarse}
 use Rattle.meaning.specs.Output.{Sight, Last, printing, asking, source, output, ending_in, AsksBehind}
 use Rattle.simulation.specs.Outcome.{Outcome, Gives, Ends, Unfinished, Below, events_in, ending_in as last_in}
 use Rattle.simulation.specs.Steps.{Stops, events_of, many, shown_by}
@@ -23,7 +23,7 @@ use Rattle.machine.specs.declared.run_state.Panic.{Panic as MachinePanic}
 use Rattle.machine.specs.declared.run_state.Ending.{Ending as Stop}
 use Rattle.machine.specs.declared.run_state.Ending.TheVariants.{Exit as Stopped, Panic as Panicked, ReadFault, WriteFault, NoMemory, StackLimit as Limit, HeapLimit as Full, WildReturn, WildLink, WildAddress, WildHeader}
 use Rattle.program_code.specs.Code.{code_of}
-use Rattle.program_code.proofs.Sites.{package_placed}
+use Rattle.program_code.proofs.Sites.{coarse_placed}
 use Rattle.program_code.proofs.Stands.{compiled}
 use Rattle.simulated_code.proofs.Follows.{simulated}
 use Rattle.simulated_code.specs.Correct.{same_event, same_fault, same_end, same_last, limits, first_words, target, entered, first_state, Simulated, AreNumbers}
@@ -33,10 +33,10 @@ use Rattle.code_runs.specs.declared.running.RunFault.TheVariants as fault
 use Rattle.code_runs.proofs.Items.{reading_of, are_numbers, has_answers}
 use Rattle.code_runs.proofs.Begun.{gated, shut}
 
--- the theorem, of tables that are the program's code where the variables of the package alone live on the heap
-pub simulates : (p : Program) (code : Tables) → IsInForm p → code ≡ code_of p (package_alone p) → Simulated p (package_alone p) code
+-- the theorem, of tables that are the program's code with the placement that needs no analysis
+pub simulates : (p : Program) (code : Tables) → IsInForm p → code ≡ code_of p (coarse p) → Simulated p (coarse p) code
 simulates p code form is =
-    let l = package_alone p in subst (λ (t : Tables). Simulated p l t) (sym is) (simulated p l (code_of p l) (compiled p l) form (package_placed p form) refl)
+    let l = coarse p in subst (λ (t : Tables). Simulated p l t) (sym is) (simulated p l (code_of p l) (compiled p l) form (coarse_placed p) refl)
 
 -- what is said of a run's answer, of one that stands for an ending of the machine
 abbrev RanAs : List (List ℕ) → (few many : Outcome Sight Last) → Option (Result ℕ RunFault) → ℕ → (old new : Option (List ℕ)) → (before now : ℕ) → Type 0
@@ -318,12 +318,12 @@ module _ (strings : List (List ℕ)) where
     ran (Some (WildAddress x)) a = let m = ends (last_of s (WildAddress x)) a.0 in absurd (address_is m.ending x m.alike)
     ran (Some (WildHeader x)) a = let m = ends (last_of s (WildHeader x)) a.0 in absurd (header_is m.ending x m.alike)
 
-module _ (p : Program) (code : Tables) (is : Simulated p (package_alone p) code) (items : ℕ → Item) (numbers : AreNumbers items) (max heap_max steps : ℕ) (stack : max ≤ 2 ^ 32) (small : heap_max ≤ 2 ^ 32) where
+module _ (p : Program) (code : Tables) (is : Simulated p (coarse p) code) (items : ℕ → Item) (numbers : AreNumbers items) (max heap_max steps : ℕ) (stack : max ≤ 2 ^ 32) (small : heap_max ≤ 2 ^ 32) where
   abbrev few : Outcome Sight Last
-  few = source items p (limits p (package_alone p) max heap_max) (steps / 16)
+  few = source items p (limits p (coarse p) max heap_max) (steps / 16)
 
   abbrev turns : Outcome Sight Last
-  turns = source items p (limits p (package_alone p) max heap_max) steps
+  turns = source items p (limits p (coarse p) max heap_max) steps
 
   abbrev goal : Outcome Event Halt
   goal = target code items (first_words p.globals) p.main max heap_max steps

@@ -11,7 +11,7 @@ use Rattle.typed.specs.declared.program.PackageVariable.{PackageVariable}
 use Rattle.typed.specs.View.{first_value, value_of}
 use Rattle.meaning.specs.Trace.{Ending, Exit, Panic, StackLimit, HeapLimit, Fault}
 use Rattle.meaning.specs.Meaning.{Item}
-use Rattle.frames.specs.Placement.{package_alone}
+use Rattle.frames.specs.Placement.{coarse}
 use Rattle.meaning.specs.Output.{Sight, Last, printing, asking, source, output, ending_in}
 use Rattle.simulation.specs.Outcome.{Outcome, Gives, Ends, Unfinished}
 use Rattle.heap_bump.specs.Words.{with_word}
@@ -81,7 +81,7 @@ Ran strings few many (Err fault.NoMemory) answered old new before now = TookPref
 -- the same of a program's source under these limits, in a sixteenth of `steps` turns and in as many
 abbrev pub RanUnder : Program → (stack_max heap_max steps : ℕ) → Result ℕ RunFault → (old new : Option (List ℕ)) → (before now : ℕ) → (ℕ → Item) → (answered : ℕ) → Type 0
 RanUnder p stack_max heap_max steps result old new before now items answered =
-    Ran p.strings (source items p (limits p (package_alone p) stack_max heap_max) (steps / 16)) (source items p (limits p (package_alone p) stack_max heap_max) steps) result answered old new before now
+    Ran p.strings (source items p (limits p (coarse p) stack_max heap_max) (steps / 16)) (source items p (limits p (coarse p) stack_max heap_max) steps) result answered old new before now
 
 -- What a run read of an input with these bytes left, and what it did. All that is known of the items of the input are the
 -- answers that came in order: so for whatever items, numbers of 64 bits, begin with them, a claim holds that is also told how

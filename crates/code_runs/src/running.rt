@@ -5,7 +5,7 @@ ghost use Rattle.machine.specs.Answers.{StatusFits};
 ghost use Rattle.typed.specs.View.{program_of};
 ghost use Rattle.typed_syntax.specs.Form.{IsInForm};
 ghost use Rattle.outside.specs.Causes.{Rose};
-ghost use Rattle.frames.specs.Placement.{package_alone};
+ghost use Rattle.frames.specs.Placement.{coarse};
 ghost use Rattle.program_code.specs.Code.{code_of};
 ghost use Rattle.code_runs.specs.Runs.{RanUnder, ReadBy, answer_to};
 ghost use Rattle.code_runs.specs.declared.running.RunFault.{RunFault};
@@ -112,7 +112,7 @@ pub fn run<I: Source, O: Sink>(
     out: &mut O,
 ) -> Result<u8, RunFault>
     requires form { IsInForm (program_of program.now) }
-    requires code { code.now ≡ code_of (program_of program.now) (package_alone (program_of program.now)) }
+    requires code { code.now ≡ code_of (program_of program.now) (coarse (program_of program.now)) }
     requires main { program.now.main.0 < length code.now.funcs }
     requires stack { stack_max ≤ 2 ^ 32 }
     requires heap { heap_max ≤ 2 ^ 32 }

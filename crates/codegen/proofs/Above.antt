@@ -1,7 +1,7 @@
 -- The temps above the operands of left sides, one by one.
 use Rattle.std.proofs.Common.{◌≡◌, ℕ, ◌+◌, ◌<◌, ◌≤◌, List, [], ◌∷◌, ◌∙◌, ap, drop, get_or, length, map, refl, sym, arith}
 use Rattle.typed.specs.declared.stmt.Left.{Left as LeftData}
-use Rattle.typed_syntax.specs.Syntax.{Pl, Left, local, global, blank, new, to}
+use Rattle.typed_syntax.specs.Syntax.{Pl, Left, local, global, indirect, slice_element, blank, new, to}
 use Rattle.typed.specs.View.{left_of}
 use Rattle.program_code.specs.Code.{lefts_above, place_above}
 use Rattle.codegen.proofs.Emitted.{split_lefts}
@@ -10,7 +10,8 @@ use Rattle.expression_code.proofs.Steps.{above_least}
 place_least : (q : Pl) (h : ℕ) → h ≤ place_above q h
 place_least (local site steps) h = above_least h steps
 place_least (global g steps) h = above_least h steps
-place_least q h = omega arith
+place_least (indirect at e n steps) h = let l = above_least (h + 1) steps in omega (arith, l)
+place_least (slice_element at e i n steps) h = let l = above_least (h + 4) steps in omega (arith, l)
 
 -- operands only go up
 pub lefts_least : (ls : List Left) (h : ℕ) → h ≤ lefts_above ls h

@@ -1,5 +1,5 @@
 -- Code that is put together from pieces.
-use Rattle.std.proofs.Common.{◌≡◌, ℕ, suc, ◌+◌, ◌<◌, ◌≤◌, List, [], ◌∷◌, ◌++◌, length, get_or, drop, map, refl, sym, ap, ◌∙◌, subst, arith, length-append, append_assoc}
+use Rattle.std.proofs.Common.{◌≡◌, ℕ, zero, suc, ◌+◌, ◌<◌, ◌≤◌, List, [], ◌∷◌, ◌++◌, length, get_or, drop, map, refl, sym, ap, ◌∙◌, subst, arith, length-append, append_assoc}
 use Rattle.std.specs.Prelude.{Option, Some, None, slice_index}
 use Rattle.std.proofs.Math.Seq.{drop-cons}
 use Rattle.std.proofs.lemmas.List.{append-nil}
@@ -12,12 +12,14 @@ use Rattle.typed.specs.declared.stmt.Left.{Left as LeftData}
 use Rattle.typed.specs.declared.stmt.Piece.{Piece as PieceData}
 use Rattle.typed.specs.declared.stmt.Stmt.{Stmt}
 use Rattle.frames.specs.Frames.{far}
-use Rattle.typed_syntax.specs.Syntax.{Ex, Exs, Pl, Left, Piece, Sts, Program, blank, new, to, text, shown, over_int, over_length, over_copy, if_stmt, for_stmt, range, next, wide, all_wide, value_widths}
-use Rattle.typed.specs.View.{left_of, piece_of, site_in, st_of, sts_of}
+use Rattle.typed_syntax.specs.Positions.{Position}
+use Rattle.typed_syntax.specs.Types.{width}
+use Rattle.typed_syntax.specs.Syntax.{Ex, Exs, Pl, Left, Piece, Sts, Program, blank, new, to, text, shown, over_int, over_length, over_copy, over_slice, over_pointer, over_pointed, if_stmt, for_stmt, range, next, type_named, wide, all_wide, value_widths}
+use Rattle.typed.specs.View.{left_of, piece_of, site_in, site_numbers, st_of, sts_of}
 use Rattle.codegen.specs.Frame.{assign_code, bump_code, key_code, left_code, param_code, temp_behind, turn_code, update_code}
-use Rattle.codegen.specs.Temps.{LeftFits, LeftsFitIn, ParamFits, ParamsFitIn, PiecesFitIn, ReadyFitIn, StsFitIn}
-use Rattle.program_code.specs.Code.{Slots, birth_code, above_address, address_code, address_size, array_code, element_round_code, element_round_size, ex_code, exs_code, fetch_code, first_width, index_round_code, index_round_size, land_code, lefts_above, lefts_code, lefts_end, lefts_size, lefts_sized, operation, other_widths, params_code, piece_size, pieces_code, place_above, place_code, place_end, place_size, ready_code, renew_code, renew_size, site_slot, site_words, size, st_code, st_size, sts_code, sts_size, temp, test_code, test_size}
-use Rattle.program_code.proofs.Sizes.{length_address, length_code, length_element_round, length_index_round, length_last, length_lefts, length_pieces, length_place, length_ready, length_renew, length_st, length_sts, length_test, lefts_ends, lefts_sum, place_ends}
+use Rattle.codegen.specs.Temps.{LeftFits, LeftsFitIn, MovesFit, ParamFits, ParamsFitIn, PiecesFitIn, ReadyFitIn, StFitsIn, StsFitIn, left_words}
+use Rattle.program_code.specs.Code.{Slots, birth_code, above_address, address_code, address_size, array_code, element_round_code, element_round_size, ex_code, exs_code, fetch_code, first_width, index_round_code, index_round_size, land_code, lefts_above, lefts_code, lefts_end, lefts_size, lefts_sized, operation, other_widths, params_code, piece_size, pieces_code, place_above, place_code, place_end, place_size, pointed_round_code, pointed_round_size, ready_code, renew_code, renew_size, size, slice_round_code, slice_round_size, st_code, st_size, sts_code, sts_size, temp, test_code, test_size}
+use Rattle.program_code.proofs.Sizes.{length_address, length_code, length_element_round, length_index_round, length_last, length_lefts, length_pieces, length_place, length_pointed_round, length_ready, length_renew, length_slice_round, length_st, length_sts, length_test, lefts_ends, lefts_sum, place_ends}
 use Rattle.expression_code.proofs.ByWidth.{first_drop, other_drop}
 
 split : (ss : List Stmt) (i : ℕ) (x : Stmt) → i < length ss → x ≡ get_or ss i x → sts_of (drop i ss) ≡ next (st_of x) (sts_of (drop (i + 1) ss))
@@ -37,6 +39,12 @@ split_lefts ls i x l is =
 
 split_params : (ps : List (Option SiteId)) (i : ℕ) (none : Option SiteId) → i < length ps → map site_in (drop i ps) ≡ site_in (get_or ps i none) ∷ map site_in (drop (i + 1) ps)
 split_params ps i none l = let one : suc i ≡ i + 1 = omega arith in ap (map site_in) (drop-cons ps i none l) ∙ ap (λ j. site_in (get_or ps i none) ∷ map site_in (drop j ps)) one
+
+-- what is moved through temps has some
+pub moves_room : (s : Slots) (h : ℕ) (sites : List SiteId) (i : ℕ) → i < length sites → MovesFit s h (site_numbers (drop i sites)) → h ≤ s.temps
+moves_room s h [] i l f = absurd (omega (arith, l))
+moves_room s h (site ∷ sites) zero l f = let k = f.0 in omega (arith, k)
+moves_room s h (site ∷ sites) (suc i) l f = moves_room s h sites i (omega (arith, l)) f
 
 -- left sides and parameters, which go by widths
 module _ (s : Slots) where
@@ -173,7 +181,7 @@ module _ (p : Program) (s : Slots) where
 
   -- what stands before the operand of an assignment with an operator: the operands of the place, its address and its value
   module _ (old c0 c1 c2 : List Instr) (q : Pl) (h at v : ℕ) (ea : at ≡ place_above q h) (ev : v ≡ above_address (far q) at) (e0 : c0 ≡ old ++ place_code p s q h (length old)) (e1 : c1 ≡ c0 ++ address_code s q h at)
-      (e2 : c2 ≡ c1 ++ fetch_code s q at v ∷ []) where
+      (e2 : c2 ≡ c1 ++ fetch_code s q h at v ∷ []) where
     abbrev at_is : ℕ
     at_is = place_above q h
 
@@ -187,7 +195,7 @@ module _ (p : Program) (s : Slots) where
     reached_place =
         ap length e2 ∙ omega (
           arith,
-          length_last c1 (fetch_code s q at v),
+          length_last c1 (fetch_code s q h at v),
           ap length e1,
           length-append c0 (address_code s q h at),
           length_address s q h at,
@@ -197,31 +205,31 @@ module _ (p : Program) (s : Slots) where
           place_ends p q (length old),
         )
 
-    begun : c2 ≡ ((old ++ place_code p s q h (length old)) ++ address_code s q h at_is) ++ fetch_code s q at_is v_is ∷ []
+    begun : c2 ≡ ((old ++ place_code p s q h (length old)) ++ address_code s q h at_is) ++ fetch_code s q h at_is v_is ∷ []
     begun =
-        e2 ∙ ap (λ k. c1 ++ fetch_code s q at k ∷ []) same_value ∙ ap (λ k. c1 ++ fetch_code s q k v_is ∷ []) ea
-        ∙ ap (λ c. c ++ fetch_code s q at_is v_is ∷ []) (e1 ∙ ap (λ k. c0 ++ address_code s q h k) ea ∙ ap (λ c. c ++ address_code s q h at_is) e0)
+        e2 ∙ ap (λ k. c1 ++ fetch_code s q h at k ∷ []) same_value ∙ ap (λ k. c1 ++ fetch_code s q h k v_is ∷ []) ea
+        ∙ ap (λ c. c ++ fetch_code s q h at_is v_is ∷ []) (e1 ∙ ap (λ k. c0 ++ address_code s q h k) ea ∙ ap (λ c. c ++ address_code s q h at_is) e0)
 
     pub update_emitted : (c3 c4 c5 : List Instr) (o : BinOp) (e : Ex) → c3 ≡ c2 ++ ex_code p s e (v + 1) (length c2) → c4 ≡ c3 ++ Bin (operation o) (temp s v) (temp s v) (temp s (v + 1)) ∷ []
-        → c5 ≡ c4 ++ land_code s q at v ∷ [] → c5 ≡ old ++ update_code p s q o e h (length old)
+        → c5 ≡ c4 ++ land_code s q h at v ∷ [] → c5 ≡ old ++ update_code p s q o e h (length old)
     update_emitted c3 c4 c5 o e e3 e4 e5 =
         let pe = place_end p q (length old) + (address_size q + 1) in let w = v_is in
         let f3 : c3 ≡ c2 ++ ex_code p s e (w + 1) pe = e3 ∙ ap (λ place. c2 ++ ex_code p s e (v + 1) place) reached_place ∙ ap (λ k. c2 ++ ex_code p s e (k + 1) pe) same_value in
         let f4 : c4 ≡ c3 ++ Bin (operation o) (temp s w) (temp s w) (temp s (w + 1)) ∷ [] = e4 ∙ ap (λ k. c3 ++ Bin (operation o) (temp s k) (temp s k) (temp s (k + 1)) ∷ []) same_value in
-        let f5 : c5 ≡ c4 ++ land_code s q at_is w ∷ [] = e5 ∙ ap (λ k. c4 ++ land_code s q at k ∷ []) same_value ∙ ap (λ k. c4 ++ land_code s q k w ∷ []) ea in
+        let f5 : c5 ≡ c4 ++ land_code s q h at_is w ∷ [] = e5 ∙ ap (λ k. c4 ++ land_code s q h at k ∷ []) same_value ∙ ap (λ k. c4 ++ land_code s q h k w ∷ []) ea in
         let b = begun in
-        let all : c5 ≡ (((((old ++ place_code p s q h (length old)) ++ address_code s q h at_is) ++ fetch_code s q at_is w ∷ []) ++ ex_code p s e (w + 1) pe) ++ Bin (operation o) (temp s w) (temp s w) (temp s (w + 1)) ∷ []) ++ land_code s q at_is w ∷ [] = cc in
+        let all : c5 ≡ (((((old ++ place_code p s q h (length old)) ++ address_code s q h at_is) ++ fetch_code s q h at_is w ∷ []) ++ ex_code p s e (w + 1) pe) ++ Bin (operation o) (temp s w) (temp s w) (temp s (w + 1)) ∷ []) ++ land_code s q h at_is w ∷ [] = cc in
         all ∙ simp append_assoc
 
     pub bump_emitted : (c3 c4 c5 : List Instr) (o : BinOp) → c3 ≡ c2 ++ Const (temp s (v + 1)) 1 ∷ [] → c4 ≡ c3 ++ Bin (operation o) (temp s v) (temp s v) (temp s (v + 1)) ∷ []
-        → c5 ≡ c4 ++ land_code s q at v ∷ [] → c5 ≡ old ++ bump_code p s q o h (length old)
+        → c5 ≡ c4 ++ land_code s q h at v ∷ [] → c5 ≡ old ++ bump_code p s q o h (length old)
     bump_emitted c3 c4 c5 o e3 e4 e5 =
         let w = v_is in
         let f3 : c3 ≡ c2 ++ Const (temp s (w + 1)) 1 ∷ [] = e3 ∙ ap (λ k. c2 ++ Const (temp s (k + 1)) 1 ∷ []) same_value in
         let f4 : c4 ≡ c3 ++ Bin (operation o) (temp s w) (temp s w) (temp s (w + 1)) ∷ [] = e4 ∙ ap (λ k. c3 ++ Bin (operation o) (temp s k) (temp s k) (temp s (k + 1)) ∷ []) same_value in
-        let f5 : c5 ≡ c4 ++ land_code s q at_is w ∷ [] = e5 ∙ ap (λ k. c4 ++ land_code s q at k ∷ []) same_value ∙ ap (λ k. c4 ++ land_code s q k w ∷ []) ea in
+        let f5 : c5 ≡ c4 ++ land_code s q h at_is w ∷ [] = e5 ∙ ap (λ k. c4 ++ land_code s q h at k ∷ []) same_value ∙ ap (λ k. c4 ++ land_code s q h k w ∷ []) ea in
         let b = begun in
-        let all : c5 ≡ (((((old ++ place_code p s q h (length old)) ++ address_code s q h at_is) ++ fetch_code s q at_is w ∷ []) ++ Const (temp s (w + 1)) 1 ∷ []) ++ Bin (operation o) (temp s w) (temp s w) (temp s (w + 1)) ∷ []) ++ land_code s q at_is w ∷ [] = cc in
+        let all : c5 ≡ (((((old ++ place_code p s q h (length old)) ++ address_code s q h at_is) ++ fetch_code s q h at_is w ∷ []) ++ Const (temp s (w + 1)) 1 ∷ []) ++ Bin (operation o) (temp s w) (temp s w) (temp s (w + 1)) ∷ []) ++ land_code s q h at_is w ∷ [] = cc in
         all ∙ simp append_assoc
 
 module _ (p : Program) (arguments : ℕ) (named : List ℕ) (s : Slots) where
@@ -377,3 +385,66 @@ module _ (p : Program) (arguments : ℕ) (named : List ℕ) (s : Slots) where
       rounds_emitted c0 c1 c2 c3 c4 round body x wide begin test turn behind h (omega (arith, eb, es, n0)) et eu ebe e1 (length_element_round p s site x key value h (length c0 + 4)) (e2 ∙ ap (λ place. c1 ++ element_round_code p s site x key value h place) n1) e3 e4 in
       let placed : c4 ≡ c0 ++ rounds pb = all ∙ ap (λ k. c0 ++ rounds k) n0 in
       placed ∙ ap (λ c. c ++ rounds pb) e0 ∙ append_assoc old (copy ++ birth) (rounds pb) ∙ ap (λ is. old ++ is) (append_assoc copy birth (rounds pb))
+
+  pub pointed_emitted : (old c0 c1 c2 c3 c4 : List Instr) (at : Position) (e : Ex) (key value : Left) (body : Sts) (x t start begin test turn behind h out again : ℕ) → start ≡ length old → begin ≡ start + size p e → test ≡ begin + 1
+      → turn ≡ begin + 4 + pointed_round_size p key value + long body → behind ≡ turn + 3
+      → c0 ≡ old ++ ex_code p s e h (length old)
+      → c1 ≡ c0 ++ Const (temp s (h + 1)) 0 ∷ Const (temp s (h + 1 + 1)) x ∷ Bin Word.Less (temp s (h + 1 + 1)) (temp s (h + 1)) (temp s (h + 1 + 1)) ∷ JumpZero (temp s (h + 1 + 1)) behind ∷ []
+      → c2 ≡ c1 ++ pointed_round_code p s x (width (type_named p t)) key value h (length c1) → c3 ≡ c2 ++ code_at body (h + 2) behind turn (length c2)
+      → c4 ≡ c3 ++ turn_code s (h + 1) test
+      → c4 ≡ old ++ st_code p arguments named s (range (over_pointer at e x t) key value body) h out again (length old)
+  pointed_emitted old c0 c1 c2 c3 c4 at e key value body x t start begin test turn behind h out again es eb et eu ebe e0 e1 e2 e3 e4 =
+      let pc = length old in let pointer = ex_code p s e h pc in let pb = pc + size p e in let w = width (type_named p t) in
+      let same : h + 2 ≡ h + 1 + 1 = omega arith in
+      let n0 : length c0 ≡ pb = ap length e0 ∙ omega (arith, length-append old pointer, length_code p s e h pc) in
+      let head : List Instr = Const (temp s (h + 1)) 0 ∷ Const (temp s (h + 1 + 1)) x ∷ Bin Word.Less (temp s (h + 1 + 1)) (temp s (h + 1)) (temp s (h + 1 + 1)) ∷ JumpZero (temp s (h + 1 + 1)) behind ∷ [] in
+      let four : length head ≡ 4 = refl in
+      let n1 : length c1 ≡ length c0 + 4 = ap length e1 ∙ omega (arith, length-append c0 head, four) in
+      let wide = pointed_round_size p key value in
+      let round = pointed_round_code p s x w key value h (length c0 + 4) in
+      let rounds : (k above : ℕ) → List Instr = λ k above. (let inside = k + 4 + wide in let pu = inside + long body in array_code s x (h + 1) (k + 1) (pu + 3) (pointed_round_code p s x w key value h (k + 4)) (code_at body above (pu + 3) pu inside)) in
+      let all : c4 ≡ c0 ++ rounds (length c0) (h + 1 + 1) =
+      rounds_emitted c0 c1 c2 c3 c4 round body x wide begin test turn behind (h + 1) (omega (arith, eb, es, n0)) et eu ebe e1 (length_pointed_round p s x w key value h (length c0 + 4)) (e2 ∙ ap (λ place. c1 ++ pointed_round_code p s x w key value h place) n1)
+      (e3 ∙ ap (λ above. c2 ++ code_at body above behind turn (length c2)) same) e4 in
+      let placed : c4 ≡ c0 ++ rounds pb (h + 2) = all ∙ ap (λ above. c0 ++ rounds (length c0) above) (sym same) ∙ ap (λ k. c0 ++ rounds k (h + 2)) n0 in
+      placed ∙ ap (λ c. c ++ rounds pb (h + 2)) e0 ∙ append_assoc old pointer (rounds pb (h + 2))
+
+  pub slices_emitted : (old c1 c2 c3 c4 c5 : List Instr) (e : Ex) (key value : Left) (body : Sts) (t start test turn behind h out again : ℕ) → start ≡ length old → test ≡ start + size p e + 1
+      → turn ≡ test + 2 + slice_round_size p key value + long body → behind ≡ turn + 3 → c1 ≡ old ++ (ex_code p s e h (length old) ++ Const (temp s (h + 3)) 0 ∷ [])
+      → c2 ≡ c1 ++ Bin Word.Less (temp s (h + 4)) (temp s (h + 3)) (temp s (h + 1)) ∷ JumpZero (temp s (h + 4)) behind ∷ [] → c3 ≡ c2 ++ slice_round_code p s (width (type_named p t)) key value h (length c2)
+      → c4 ≡ c3 ++ code_at body (h + 4) behind turn (length c3) → c5 ≡ c4 ++ turn_code s (h + 3) test
+      → c5 ≡ old ++ st_code p arguments named s (range (over_slice e t) key value body) h out again (length old)
+  slices_emitted old c1 c2 c3 c4 c5 e key value body t start test turn behind h out again es et eu eb e1 e2 e3 e4 e5 =
+      let pc = length old in let w = width (type_named p t) in
+      let pt = pc + size p e + 1 in let pi = pt + 2 + slice_round_size p key value in let pu = pi + long body in let pb = pu + 3 in
+      let less = Bin Word.Less (temp s (h + 4)) (temp s (h + 3)) (temp s (h + 1)) in
+      let zero = Const (temp s (h + 3)) 0 in
+      let round = slice_round_code p s w key value h (pt + 2) in
+      let one = Const (temp s (h + 4)) 1 in let sum = Bin Word.Add (temp s (h + 3)) (temp s (h + 3)) (temp s (h + 4)) in
+      let same_test : test ≡ pt = omega (arith, es, et) in
+      let u : turn ≡ pu = omega (arith, same_test, eu) in
+      let b : behind ≡ pb = omega (arith, u, eb) in
+      let n1 : length c1 ≡ pt = ap length e1 ∙ omega (arith, length-append old (ex_code p s e h pc ++ zero ∷ []), length_last (ex_code p s e h pc) zero, length_code p s e h pc) in
+      let two : length (less ∷ JumpZero (temp s (h + 4)) behind ∷ []) ≡ 2 = refl in
+      let n2 : length c2 ≡ pt + 2 = ap length e2 ∙ omega (arith, n1, two, length-append c1 (less ∷ JumpZero (temp s (h + 4)) behind ∷ [])) in
+      let f2 : c2 ≡ c1 ++ less ∷ JumpZero (temp s (h + 4)) pb ∷ [] = e2 ∙ ap (λ place. c1 ++ less ∷ JumpZero (temp s (h + 4)) place ∷ []) b in
+      let f3 : c3 ≡ c2 ++ round = e3 ∙ ap (λ place. c2 ++ slice_round_code p s w key value h place) n2 in
+      let n3 : length c3 ≡ pi = ap length f3 ∙ omega (arith, n2, length-append c2 round, length_slice_round p s w key value h (pt + 2)) in
+      let f4 : c4 ≡ c3 ++ code_at body (h + 4) pb pu pi = e4 ∙ ap (λ place. c3 ++ code_at body (h + 4) behind turn place) n3 ∙ ap (λ place. c3 ++ code_at body (h + 4) place turn pi) b ∙ ap (λ place. c3 ++ code_at body (h + 4) pb place pi) u in
+      let above : h + 3 + 1 ≡ h + 4 = omega arith in
+      let f5 : c5 ≡ c4 ++ one ∷ sum ∷ Jump pt ∷ [] =
+      e5 ∙ ap (λ k. c4 ++ Const (temp s k) 1 ∷ Bin Word.Add (temp s (h + 3)) (temp s (h + 3)) (temp s k) ∷ Jump test ∷ []) above ∙ ap (λ place. c4 ++ one ∷ sum ∷ Jump place ∷ []) same_test in
+      let all : c5 ≡ ((((old ++ (ex_code p s e h pc ++ zero ∷ [])) ++ less ∷ JumpZero (temp s (h + 4)) pb ∷ []) ++ round) ++ code_at body (h + 4) pb pu pi) ++ one ∷ sum ∷ Jump pt ∷ [] = cc in
+      all ∙ simp append_assoc
+
+  -- the rounds over indices are those over an array's, one temp higher
+  pub pointed_indices : (key value : Left) (body : Sts) (x h out again pc : ℕ) → st_code p arguments named s (range (over_length x) key value body) (h + 1) out again pc ≡ st_code p arguments named s (range (over_pointed x) key value body) h out again pc
+  pointed_indices key value body x h out again pc =
+      let same : h + 1 + 1 ≡ h + 2 = omega arith in
+      let inside = pc + 4 + index_round_size p key in let turn = inside + long body in
+      ap (λ above. array_code s x (h + 1) (pc + 1) (turn + 3) (index_round_code p s key (h + 1) (pc + 4)) (code_at body above (turn + 3) turn inside)) same
+
+  pub pointed_fits : (n wanted h x : ℕ) (key value : Left) (body : Sts) → StFitsIn p s n wanted named h (range (over_pointed x) key value body) → StFitsIn p s n wanted named (h + 1) (range (over_length x) key value body)
+  pointed_fits n wanted h x key value body f =
+      let same : h + 2 ≡ h + 1 + 1 = omega arith in
+      subst (λ k. (k < s.temps) × ReadyFitIn p s n k (key ∷ []) × LeftFits s n (lefts_above (key ∷ []) k) key × (left_words s key ≤ 1) × StsFitIn p s n wanted named k body) same f

@@ -1,28 +1,30 @@
 -- The code of a program is a code.
-use Rattle.std.proofs.Common.{◌≡◌, ◌⊎◌, inl, inr, ℕ, zero, suc, ◌+◌, ◌-◌, ◌<◌, ◌≤◌, Bool, true, false, List, [], ◌∷◌, ◌++◌, length, map, replicate, Some, refl, sym, ap, ◌∙◌, subst, arith, length-append, append_assoc}
-use Rattle.std.specs.Prelude.{Option, None, slice_get, ⊤}
+use Rattle.std.proofs.Common.{◌≡◌, ◌⊎◌, inl, inr, ℕ, zero, suc, ◌+◌, ◌-◌, ◌*◌, ◌<◌, ◌≤◌, Bool, true, false, List, [], ◌∷◌, ◌++◌, length, map, replicate, Some, refl, sym, ap, ◌∙◌, subst, arith, length-append, append_assoc}
+use Rattle.std.specs.Prelude.{if◌then◌else◌, Option, None, slice_get, ⊤}
 use Rattle.std.proofs.lemmas.Option.{slice_get_within}
 use Rattle.isa.specs.Code.{AddedFits, AreLaid, CanCall, Fits as FitsAt, FitsPlace, IsCode, IsLinked, owners_of}
 use Rattle.isa.specs.declared.func.Func.{Func as Entry}
 use Rattle.isa.specs.declared.instr.Instr.{Instr}
 use Rattle.isa.specs.declared.instr.BinOp.TheVariants as Word
-use Rattle.isa.specs.declared.instr.Direction.TheVariants.{FromSlots}
+use Rattle.isa.specs.declared.instr.Direction.TheVariants.{FromSlots, ToSlots}
 use Rattle.isa.specs.declared.instr.MoveEvent.{MoveEvent}
 use Rattle.isa.specs.declared.instr.MoveEvent.TheVariants.{Silent, Read, Write}
+use Rattle.isa.specs.declared.instr.StoreEvent.TheVariants as Stored
+use Rattle.isa.specs.declared.instr.Added.TheVariants as Added
 use Rattle.isa.specs.declared.instr.Instr.TheVariants.{Const, Zero, Move, Same, Bin, Un, Jump, JumpZero, Call, Incoming, Load, Store, Address, Offset, Index, SliceIndex, Slice, Born, Alloc, Make, Append, Copy, ReadInt, PrintInt, PrintBool, PrintText, PrintSpace, PrintLine, Return, Exit, PanicText, PanicInt, PanicBool}
 use Rattle.typed_syntax.specs.declared.operators.BinOp.{BinOp}
 use Rattle.typed_syntax.specs.declared.operators.BinOp.TheVariants.{Add, Sub, Mul, Div, Rem, And, Or, Xor, AndNot, ShiftLeft, ShiftRight, Equal, NotEqual, Less, LessEqual, Greater, GreaterEqual}
 use Rattle.typed_syntax.specs.declared.operators.UnOp.{UnOp}
 use Rattle.typed_syntax.specs.declared.operators.UnOp.TheVariants as One
 use Rattle.typed_syntax.specs.Types.{TypeTree, ints, bools, struct_of, array_of, pointer_to, slice_of, width, part_type, part_offset}
-use Rattle.typed_syntax.specs.Paths.{offset}
-use Rattle.typed_syntax.specs.Syntax.{Ex, Exs, Steps, here, inner, at_index, Pl, Left, Piece, St, Sts, Func, Program, constant, read, unary, binary, logical_and, logical_or, call, part_of, literal, Elements, no_elements, element, local, global, none, more, results, read_int, blank, new, to, text, shown, over_int, over_length, over_copy, declare, assign, update, bump, discard, block, if_stmt, for_stmt, range, break_stmt, continue_stmt, return_stmt, print, panic, exit, done, next, all_width, each_width, arguments_in, results_in, argument_words, result_words, arguments_of, results_of, type_named, site_width, path_of, wide, all_wide, value_widths, ascend, words_through, gap_behind}
+use Rattle.typed_syntax.specs.Syntax.{Ex, Exs, Steps, here, inner, at_index, Pl, Left, Piece, St, Sts, Func, Program, constant, read, unary, binary, logical_and, logical_or, call, part_of, literal, Elements, no_elements, element, nil, address_of, new_variable, literal_variable, slice_literal, make, append, append_slice, copy, slicing, array_slicing, len, cap, Bound, absent, bound, local, global, indirect, slice_element, none, more, results, read_int, blank, new, to, text, shown, over_int, over_length, over_copy, over_slice, over_pointer, over_pointed, declare, assign, update, bump, discard, block, if_stmt, for_stmt, range, break_stmt, continue_stmt, return_stmt, print, panic, exit, done, next, all_width, each_width, arguments_in, results_in, argument_words, result_words, arguments_of, results_of, type_named, site_width, wide, all_wide, value_widths, ascend, words_through, gap_behind}
 use Rattle.typed_syntax.specs.Form.{scope_in, body_first, IsInForm}
-use Rattle.frames.specs.Placement.{Placement, IsPlaced}
-use Rattle.frames.specs.Frames.{far, steps_far, cells_between, words_between, frame_of}
-use Rattle.expression_code.specs.Temps.{SiteFits, IndicesFit, PlaceFits, AddressFits, reached, CallFits, Fits, OperandsFit, StepsFitIn, ElementsFitIn, ExsFitIn}
-use Rattle.codegen.specs.Temps.{SitesFit, sites_words, ParamsFitIn, LeftFits, LeftsFitIn, ValuesFit, RenewFits, ReadyFitIn, PiecesFitIn, TestFitsIn, StFitsIn, StsFitIn, FuncFitsIn}
-use Rattle.program_code.specs.Code.{Slots, birth_code, temp, site_slot, site_type, global_type, part_slot, part_words, zeros, first_width, other_widths, operation, binary_code, unary_code, gap_code, gap_size, above_address, steps_above, place_above, lefts_above, index_code, steps_address, address_code, address_size, fetch_part, fetch_code, land_part, land_code, read_code, write_code, move_code, result_code, call_code, ex_code, exs_code, place_code, steps_code, elements_code, ready_code, place_size, steps_size, place_end, elements_size, lefts_sized, lefts_end, pieces_code, test_code, shown_code, raised_code, show_more, show_plain, show_code, lefts_code, lefts_size, element_code, array_code, named_write_code, named_read_code, leave_code, values_code, params_code, zeros_code, renew_code, renew_size, size, exs_size, pieces_size, test_size, st_size, sts_size, st_code, sts_code, slots_of, entry_code, entry_size, func_code, func_size, entry_of, funcs_code, funcs_owners, funcs_entries, code_of}
+use Rattle.frames.specs.Placement.{Placement}
+use Rattle.frames.specs.Frames.{far, cell_words, cells_between, words_between, frame_of}
+use Rattle.expression_code.specs.Temps.{SiteFits, IndicesFit, PlaceFits, AddressFits, CallFits, Fits, BoundFitsIn, OperandsFit, StepsFitIn, ElementsFitIn, ExsFitIn}
+use Rattle.codegen.specs.Frame.{sliced_pair_code}
+use Rattle.codegen.specs.Temps.{SitesFit, sites_words, ParamsFitIn, LeftFits, LeftsFitIn, ValuesFit, MovesFit, ReadyFitIn, PiecesFitIn, SliceRoundFits, TestFitsIn, StFitsIn, StsFitIn, FuncFitsIn}
+use Rattle.program_code.specs.Code.{Slots, Access, in_slots, by_address, site_access, site_words, cell_slot, fetch, land, point, fill, fill_code, born_code, birth_code, new_code, elements_put, sliced_code, append_code, room_code, low_code, high_code, cut_code, whole_code, element_words, bound_code, bound_end, bound_size, sliced_element_code, slice_round_code, slice_round_size, local_root, root_code, root_type, steps_of, indices_from, far_code, near_access, near_offset, near_words, access, access_by, point_code, pointing_code, param_by, param_code, pointed_code, compared, temp, site_slot, site_type, zeros, first_width, other_widths, operation, binary_code, unary_code, gap_code, gap_size, above_address, steps_above, place_above, lefts_above, index_code, address_code, address_size, fetch_code, land_code, read_code, write_code, move_code, result_code, call_code, ex_code, exs_code, place_code, steps_code, elements_code, ready_code, place_size, steps_size, place_end, elements_size, lefts_sized, lefts_end, pieces_code, test_code, shown_code, raised_code, show_more, show_plain, show_code, lefts_code, lefts_size, element_code, array_code, named_write_code, named_read_code, leave_code, values_code, params_code, zeros_code, renew_code, renew_size, size, exs_size, pieces_size, test_size, st_size, sts_size, st_code, sts_code, slots_of, entry_code, entry_size, func_code, func_size, entry_of, funcs_code, funcs_owners, funcs_entries, code_of}
 use Rattle.program_code.proofs.Rooms.{steps_from}
 use Rattle.program_code.proofs.Sizes.{length_func, place_sum, place_ends, lefts_sum, lefts_ends}
 use Rattle.program_code.proofs.Stands.{same_some, start_of, some_size, length_owners, stands, located, entered_from, exists}
@@ -49,7 +51,7 @@ module _ (fns : List Entry) (strings slots incoming start end : ℕ) where
   Ok (Store event a off c n) = (1 ≤ n) × (a < slots) × (c + n ≤ slots)
   Ok (Address a b) = (a < slots) × (b < slots)
   Ok (Offset a b off) = (a < slots) × (b < slots)
-  Ok (Index a b c len w) = (1 ≤ len) × (1 ≤ w) × (a < slots) × (b < slots) × (c < slots)
+  Ok (Index a b c x w) = (1 ≤ x) × (1 ≤ w) × (a < slots) × (b < slots) × (c < slots)
   Ok (SliceIndex a b c w) = (1 ≤ w) × (a < slots) × (b + 3 ≤ slots) × (c < slots)
   Ok (Slice a b c w) = (1 ≤ w) × (a + 3 ≤ slots) × (b + 3 ≤ slots) × (c + 2 ≤ slots)
   Ok (Born a n site) = a + n ≤ slots
@@ -73,11 +75,20 @@ module _ (fns : List Entry) (strings slots incoming start end : ℕ) where
   All [] = ⊤
   All (i ∷ is) = Ok i × All is
 
+-- a site's cell stands before those of later sites
+cells_next : (pl : Placement) (from k n : ℕ) → k < n → cells_between pl from k + cell_words pl (from + k) ≤ cells_between pl from n
+cells_next pl from k zero lt = absurd (omega (arith, lt))
+cells_next pl from zero (suc n) lt = let e : from + 0 ≡ from = omega arith in let q = ap (cell_words pl) e in omega (arith, q)
+cells_next pl from (suc k) (suc n) lt =
+    let e : suc from + k ≡ from + suc k = omega arith in
+    let q = ap (cell_words pl) e in
+    let l = cells_next pl (suc from) k n (omega (arith, lt)) in omega (arith, q, l)
+
 -- the code of a function of which these are the slots
 module _ (p : Program) (solid : (site : ℕ) → 0 < site_width p site) (pl : Placement) (outgoing temps first n : ℕ) (fns : List Entry) (strings arguments wanted start end : ℕ)
     (can : (f : ℕ) → f < length p.funcs → arguments_of p f + results_of p f ≤ outgoing → CanCall fns (outgoing + temps + (cells_between pl first n + words_between pl p.sites first n)) f) where
   abbrev s : Slots
-  s = record { outgoing = outgoing; temps = temps; first = first; count = n; placement = pl; sites = p.sites; globals = map (λ g. g.0) p.globals }
+  s = record { outgoing = outgoing; temps = temps; first = first; count = n; placement = pl; types = p.types; sites = p.sites; globals = map (λ g. g.0) p.globals }
 
   abbrev room : ℕ
   room = outgoing + temps + (cells_between pl first n + words_between pl p.sites first n)
@@ -93,11 +104,31 @@ module _ (p : Program) (solid : (site : ℕ) → 0 < site_width p site) (pl : Pl
   join [] b f g = g
   join (i ∷ a) b f g = (f.0, join a b f.1 g)
 
-  site_in : (site : ℕ) → SiteFits s n site → site_slot s site + site_width p site ≤ room
-  site_in site f = let l = site_within s n site f in omega (arith, l)
+  -- m words are in the frame's slots, or behind the address in one
+  abbrev Has : Access → (m : ℕ) → Type 0
+  Has (in_slots slot) m = slot + m ≤ room
+  Has (by_address slot) m = slot < room
 
-  temp_in : (site : ℕ) → SiteFits s n site → temp s 0 + site_width p site ≤ room
-  temp_in site f = let l = site_within s n site f in omega (arith, l)
+  cell_in : (site : ℕ) → SiteFits s n site → pl.on_heap site ≡ true → cell_slot s site < room
+  cell_in site f apart =
+      let from = f.0 in let to = f.1 in
+      let e : first + (site - first) ≡ site = omega (arith, from) in
+      let one : cell_words pl (first + (site - first)) ≡ 1 = ap (cell_words pl) e ∙ ap (λ (heap : Bool). if heap then 1 else 0) apart in
+      let l = cells_next pl first (site - first) n (omega (arith, from, to)) in omega (arith, one, l)
+
+  site_in : (site : ℕ) → SiteFits s n site → Has (site_access s site) (site_width p site)
+  site_in site f = by (pl.on_heap site) refl
+    where
+      by : (heap : Bool) → pl.on_heap site ≡ heap → Has (if heap then by_address (cell_slot s site) else in_slots (site_slot s site)) (site_width p site)
+      by true apart = cell_in site f apart
+      by false stays = let l = site_within s n site stays f in omega (arith, l)
+
+  has_less : (a : Access) (k m : ℕ) → k ≤ m → Has a m → Has a k
+  has_less (in_slots slot) k m l h = omega (arith, l, h)
+  has_less (by_address slot) k m l h = h
+
+  whole_in : (site : ℕ) → SiteFits s n site → Has (site_access s site) (0 + site_width p site)
+  whole_in site f = has_less (site_access s site) (0 + site_width p site) (site_width p site) (omega arith) (site_in site f)
 
   moved_ok : (event : MoveEvent) (m a b : ℕ) (is : List Instr) → 0 < m → a + m ≤ room → b + m ≤ room → Are is → Are (Move event a b m ∷ is)
   moved_ok event m a b is some f g k = ((omega (arith, some), f, g), k)
@@ -107,8 +138,33 @@ module _ (p : Program) (solid : (site : ℕ) → 0 < site_width p site) (pl : Pl
   zeroed_ok (suc zero) a is some f k = (omega (arith, f), k)
   zeroed_ok (suc (suc m)) a is some f k = ((omega arith, f), k)
 
+  -- words are read and written where they are, and their address is taken
+  fetched_ok : (a : Access) (off m c : ℕ) (is : List Instr) → 0 < m → Has a (off + m) → c + m ≤ room → Are is → Are (fetch a off m c ∷ is)
+  fetched_ok (in_slots slot) off m c is some h l k = moved_ok Read m c (slot + off) is some l (omega (arith, h)) k
+  fetched_ok (by_address slot) off m c is some h l k = ((omega (arith, some), l, h), k)
+
+  landed_ok : (a : Access) (off m c : ℕ) (is : List Instr) → 0 < m → Has a (off + m) → c + m ≤ room → Are is → Are (land a off m c ∷ is)
+  landed_ok (in_slots slot) off m c is some h l k = moved_ok Write m (slot + off) c is some (omega (arith, h)) l k
+  landed_ok (by_address slot) off m c is some h l k = ((omega (arith, some), h, l), k)
+
+  pointed_to_ok : (a : Access) (off m c : ℕ) (is : List Instr) → 0 < m → Has a (off + m) → c < room → Are is → Are (point a off c ∷ is)
+  pointed_to_ok (in_slots slot) off m c is some h l k = ((l, omega (arith, some, h)), k)
+  pointed_to_ok (by_address slot) off m c is some h l k = ((l, h), k)
+
+  filled_ok : (a : Access) (m c : ℕ) (is : List Instr) → 0 < m → Has a m → c + m ≤ room → Are is → Are (fill a m c ∷ is)
+  filled_ok (in_slots slot) m c is some h l k = moved_ok Silent m slot c is some h l k
+  filled_ok (by_address slot) m c is some h l k = ((omega (arith, some), h, l), k)
+
+  born_ok : (site : ℕ) (is : List Instr) → SiteFits s n site → Are is → Are (born_code s site ∷ is)
+  born_ok site is f k = by (pl.on_heap site) refl
+    where
+      by : (heap : Bool) → pl.on_heap site ≡ heap → Are ((if heap then Alloc (cell_slot s site) (site_words s site) site else Born (site_slot s site) (site_words s site) site) ∷ is)
+      by true apart = (cell_in site f apart, k)
+      by false stays = (let l = site_within s n site stays f in omega (arith, l), k)
+
   birth_ok : (site h : ℕ) (is : List Instr) → SiteFits s n site → h + site_width p site ≤ temps → Are is → Are (birth_code s site h ++ is)
-  birth_ok site h is f l k = let i = site_in site f in (i, moved_ok Silent (site_width p site) (site_slot s site) (temp s h) is (solid site) i (omega (arith, l)) k)
+  birth_ok site h is f l k =
+      born_ok site (fill_code s site h ∷ is) f (filled_ok (site_access s site) (site_width p site) (temp s h) is (solid site) (site_in site f) (omega (arith, l)) k)
 
   move_ok : (m a b : ℕ) → a + m ≤ room → b + m ≤ room → Are (move_code m a b)
   move_ok zero a b f g = tt
@@ -165,46 +221,107 @@ module _ (p : Program) (solid : (site : ℕ) → 0 < site_width p site) (pl : Pl
       let k = steps_from p (first + 1) steps in
       ((f.0, f.2, omega (arith, a), omega (arith, a), omega (arith, k, l)), index_ok (part_type t 0) steps (first + 1) at is a l f.3 g)
 
-  steps_address_ok : (slot : ℕ) (t : TypeTree) (steps : Steps) (first at : ℕ) (is : List Instr) → at + steps_far steps ≤ temps → steps_above steps first ≤ temps → IndicesFit t steps → slot + offset t (path_of steps) < room
-      → Are is → Are (steps_address s slot t steps first at ++ is)
-  steps_address_ok slot t here first at is a l f r g = g
-  steps_address_ok slot t (inner i steps) first at is a l f r g = steps_address_ok (slot + part_offset t i) (part_type t i) steps first at is a l f (omega (arith, r)) g
-  steps_address_ok slot t (at_index place e m steps) first at is a l f r g = ((omega (arith, a), omega (arith, r)), index_ok t (at_index place e m steps) first at is (omega (arith, a)) l f g)
+  -- the address of a variable
+  local_root_ok : (site at : ℕ) (is : List Instr) → SiteFits s n site → at < temps → Are is → Are (local_root s site at ∷ is)
+  local_root_ok site at is f l k = by (pl.on_heap site) refl
+    where
+      by : (heap : Bool) → pl.on_heap site ≡ heap → Are ((if heap then Move Silent (temp s at) (cell_slot s site) 1 else Address (temp s at) (site_slot s site)) ∷ is)
+      by true apart = let c = cell_in site f apart in moved_ok Silent 1 (temp s at) (cell_slot s site) is (omega arith) (omega (arith, l)) (omega (arith, c)) k
+      by false stays = let own = site_within s n site stays f in let words = solid site in ((omega (arith, l), omega (arith, own, words)), k)
 
-  -- a part of a variable is in its slots
-  part_in : (site : ℕ) (steps : Steps) → PlaceFits s n (local site steps) → part_slot s site (path_of steps) + part_words s site (path_of steps) ≤ room
-  part_in site steps f = let l = site_in site f.0 in let k = f.2 in omega (arith, l, k)
+  -- that at which a place begins, and that of its part by its indices
+  root_ok : (q : Pl) (first at : ℕ) (is : List Instr) → at < temps → place_above q first ≤ temps → PlaceFits s n q → Are is → Are (root_code s q first at ++ is)
+  root_ok (local site steps) first at is a l f g = local_root_ok site at is f.0 a g
+  root_ok (global number steps) first at is a l f g = (omega (arith, a), g)
+  root_ok (indirect e x m steps) first at is a l f g = let k = steps_from p (first + 1) steps in ((omega (arith, a), omega (arith, k, l)), g)
+  root_ok (slice_element e x i m steps) first at is a l f g =
+      let k = steps_from p (first + 4) steps in let some = f.1 in let whole = f.2 in ((omega (arith, some, whole), omega (arith, a), omega (arith, k, l), omega (arith, k, l)), g)
+
+  -- the indices of a place are among its operands
+  indices_above : (q : Pl) (first : ℕ) → place_above q first ≤ temps → PlaceFits s n q → steps_above (steps_of q) (indices_from q first) ≤ temps
+  indices_above (local site steps) first l f = l
+  indices_above (global number steps) first l f = l
+  indices_above (indirect e x m steps) first l f = l
+  indices_above (slice_element e x i m steps) first l f = l
+
+  far_ok : (q : Pl) (k first at : ℕ) (is : List Instr) → at + k ≤ temps → place_above q first ≤ temps → PlaceFits s n q → Are is → Are (far_code s q k first at ++ is)
+  far_ok q zero first at is a l f g = g
+  far_ok q (suc k) first at is a l f g =
+      let root = root_code s q first at in let indices = index_code s (root_type s q) (steps_of q) (indices_from q first) at in
+      subst Are (sym (append_assoc root indices is))
+      (root_ok q first at (indices ++ is) (omega (arith, a)) l f (index_ok (root_type s q) (steps_of q) (indices_from q first) at is (omega (arith, a)) (indices_above q first l f) f.3 g))
 
   address_ok : (q : Pl) (first at : ℕ) (is : List Instr) → AddressFits temps at q → place_above q first ≤ temps → PlaceFits s n q → Are is → Are (address_code s q first at ++ is)
-  address_ok (local site steps) first at is a l f g =
-      let k = part_in site steps f in let some = f.1 in steps_address_ok (site_slot s site) (site_type s site) steps first at is a l f.3 (omega (arith, k, some)) g
-  address_ok (global number steps) first at is a l f g = (omega (arith, a), index_ok (global_type s number) steps first at is (omega (arith, a)) l f.3 g)
-  address_ok q first at is a l f g = absurd f
+  address_ok q first at is a l f g = far_ok q (far q) first at is a l f g
 
-  fetch_part_ok : (site : ℕ) (steps : Steps) (k at h : ℕ) (is : List Instr) → h + part_words s site (path_of steps) ≤ temps → PlaceFits s n (local site steps) → at + k ≤ temps → Are is → Are (fetch_part s site steps k at h ∷ is)
-  fetch_part_ok site steps zero at h is l f a g = moved_ok Read (part_words s site (path_of steps)) (temp s h) (part_slot s site (path_of steps)) is f.1 (omega (arith, l)) (part_in site steps f) g
-  fetch_part_ok site steps (suc k) at h is l f a g = ((f.1, omega (arith, l), omega (arith, a)), g)
+  -- the words of a place are there
+  near_has : (q : Pl) (first : ℕ) → far q ≡ 0 → place_above q first ≤ temps → PlaceFits s n q → Has (near_access s q first) (near_offset s q + near_words s q)
+  near_has (local site steps) first near l f = has_less (site_access s site) (near_offset s (local site steps) + near_words s (local site steps)) (site_width p site) f.2 (site_in site f.0)
+  near_has (global number steps) first near l f = absurd (omega (arith, near))
+  near_has (indirect e x m steps) first near l f = let k = steps_from p (first + 1) steps in omega (arith, k, l)
+  near_has (slice_element e x i m steps) first near l f = absurd (omega (arith, near))
 
-  land_part_ok : (site : ℕ) (steps : Steps) (k at h : ℕ) (is : List Instr) → h + part_words s site (path_of steps) ≤ temps → PlaceFits s n (local site steps) → at + k ≤ temps → Are is → Are (land_part s site steps k at h ∷ is)
-  land_part_ok site steps zero at h is l f a g = moved_ok Write (part_words s site (path_of steps)) (part_slot s site (path_of steps)) (temp s h) is f.1 (part_in site steps f) (omega (arith, l)) g
-  land_part_ok site steps (suc k) at h is l f a g = ((f.1, omega (arith, a), omega (arith, l)), g)
+  place_has : (q : Pl) (first at : ℕ) → AddressFits temps at q → place_above q first ≤ temps → PlaceFits s n q → Has (access s q first at) (near_offset s q + near_words s q)
+  place_has q first at a l f = by (far q) refl
+    where
+      by : (k : ℕ) → far q ≡ k → Has (access_by s q k first at) (near_offset s q + near_words s q)
+      by zero near = near_has q first near l f
+      by (suc k) away = omega (arith, a, away)
 
-  fetch_ok : (q : Pl) (at h : ℕ) (is : List Instr) → h + reached s q ≤ temps → PlaceFits s n q → AddressFits temps at q → Are is → Are (fetch_code s q at h ∷ is)
-  fetch_ok (local site steps) at h is l f a g = fetch_part_ok site steps (steps_far steps) at h is l f a g
-  fetch_ok (global number steps) at h is l f a g = ((f.1, omega (arith, l), omega (arith, a)), g)
-  fetch_ok q at h is l f a g = absurd f
+  fetch_ok : (q : Pl) (first at h : ℕ) (is : List Instr) → h + near_words s q ≤ temps → PlaceFits s n q → AddressFits temps at q → place_above q first ≤ temps → Are is → Are (fetch_code s q first at h ∷ is)
+  fetch_ok q first at h is l f a b g = fetched_ok (access s q first at) (near_offset s q) (near_words s q) (temp s h) is f.1 (place_has q first at a b f) (omega (arith, l)) g
 
-  land_ok : (q : Pl) (at h : ℕ) (is : List Instr) → h + reached s q ≤ temps → PlaceFits s n q → AddressFits temps at q → Are is → Are (land_code s q at h ∷ is)
-  land_ok (local site steps) at h is l f a g = land_part_ok site steps (steps_far steps) at h is l f a g
-  land_ok (global number steps) at h is l f a g = ((f.1, omega (arith, a), omega (arith, l)), g)
-  land_ok q at h is l f a g = absurd f
+  land_ok : (q : Pl) (first at h : ℕ) (is : List Instr) → h + near_words s q ≤ temps → PlaceFits s n q → AddressFits temps at q → place_above q first ≤ temps → Are is → Are (land_code s q first at h ∷ is)
+  land_ok q first at h is l f a b g = landed_ok (access s q first at) (near_offset s q) (near_words s q) (temp s h) is f.1 (place_has q first at a b f) (omega (arith, l)) g
 
   -- the address of a place after its operands, which are in temps from h on
-  read_ok : (q : Pl) (h : ℕ) → h + reached s q ≤ temps → PlaceFits s n q → AddressFits temps (place_above q h) q → Are (read_code s q (place_above q h) h)
-  read_ok q h l f a = address_ok q h (place_above q h) (fetch_code s q (place_above q h) h ∷ []) a (omega (arith, a)) f (fetch_ok q (place_above q h) h [] l f a tt)
+  read_ok : (q : Pl) (h : ℕ) → h + near_words s q ≤ temps → PlaceFits s n q → AddressFits temps (place_above q h) q → Are (read_code s q (place_above q h) h)
+  read_ok q h l f a = let at = place_above q h in address_ok q h at (fetch_code s q h at h ∷ []) a (omega (arith, a)) f (fetch_ok q h at h [] l f a (omega (arith, a)) tt)
 
-  write_ok : (q : Pl) (first at h : ℕ) → h + reached s q ≤ temps → PlaceFits s n q → AddressFits temps at q → place_above q first ≤ temps → Are (write_code s q first at h)
-  write_ok q first at h l f a b = address_ok q first at (land_code s q at h ∷ []) a b f (land_ok q at h [] l f a tt)
+  pointing_ok : (q : Pl) (h : ℕ) → h < temps → PlaceFits s n q → AddressFits temps (place_above q h) q → Are (pointing_code s q (place_above q h) h)
+  pointing_ok q h l f a =
+      let at = place_above q h in
+      address_ok q h at (point_code s q h at h ∷ []) a (omega (arith, a)) f (pointed_to_ok (access s q h at) (near_offset s q) (near_words s q) (temp s h) [] f.1 (place_has q h at a (omega (arith, a)) f) (omega (arith, l)) tt)
+
+  write_ok : (q : Pl) (first at h : ℕ) → h + near_words s q ≤ temps → PlaceFits s n q → AddressFits temps at q → place_above q first ≤ temps → Are (write_code s q first at h)
+  write_ok q first at h l f a b = address_ok q first at (land_code s q first at h ∷ []) a b f (land_ok q first at h [] l f a b tt)
+
+  -- what puts a slice together: its header takes three temps from h on
+  put_ok : (words h : ℕ) → h + 3 + words ≤ temps → Are (elements_put s words h)
+  put_ok zero h l = tt
+  put_ok (suc words) h l = ((omega arith, omega (arith, l), omega (arith, l)), tt)
+
+  sliced_ok : (site k words h : ℕ) → h + 3 + words ≤ temps → Are (sliced_code s site k words h)
+  sliced_ok site k words h l =
+      let last : List Instr = Const (temp s (h + 1)) k ∷ Const (temp s (h + 2)) k ∷ [] in
+      (omega (arith, l), join (elements_put s words h) last (put_ok words h l) (omega (arith, l), (omega (arith, l), tt)))
+
+  append_ok : (site k h : ℕ) → 0 < site_words s site → h + 3 + k * site_words s site ≤ temps → Are (append_code s site k h ∷ [])
+  append_ok site zero h some l = ((omega arith, omega (arith, l), omega (arith, l)), tt)
+  append_ok site (suc k) h some l = ((omega (arith, some), omega (arith, l), omega (arith, l), omega (arith, l)), tt)
+
+  room_ok : (b : Bound) (h : ℕ) → h + 3 ≤ temps → Are (room_code s b h)
+  room_ok absent h l = ((omega arith, omega (arith, l), omega (arith, l)), tt)
+  room_ok (bound e) h l = tt
+
+  low_ok : (b : Bound) (h : ℕ) → h + 5 ≤ temps → Are (low_code s b h)
+  low_ok absent h l = (omega (arith, l), tt)
+  low_ok (bound e) h l = tt
+
+  high_ok : (b : Bound) (h : ℕ) → h + 5 ≤ temps → Are (high_code s b h)
+  high_ok absent h l = ((omega arith, omega (arith, l), omega (arith, l)), tt)
+  high_ok (bound e) h l = tt
+
+  cut_ok : (low high : Bound) (w h : ℕ) → 0 < w → h + 5 ≤ temps → Are (cut_code s low high w h)
+  cut_ok low high w h some l =
+      let last : List Instr = Slice (temp s h) (temp s h) (temp s (h + 3)) w ∷ [] in
+      join (low_code s low h) (high_code s high h ++ last) (low_ok low h l)
+      (join (high_code s high h) last (high_ok high h l) ((omega (arith, some), omega (arith, l), omega (arith, l), omega (arith, l)), tt))
+
+  -- a bound ends before the code of what stands in its place
+  bound_within : (b : Bound) (pc : ℕ) → (pc ≤ bound_end p b pc) × (bound_end p b pc ≤ pc + bound_size p b)
+  bound_within absent pc = (omega arith, omega arith)
+  bound_within (bound e) pc = (omega arith, omega arith)
 
   mutual
     ex_ok : (e : Ex) (h pc : ℕ) → Fits p s n h e → start ≤ pc → pc + size p e < end → Are (ex_code p s e h pc)
@@ -212,9 +329,9 @@ module _ (p : Program) (solid : (site : ℕ) → 0 < site_width p site) (pl : Pl
     ex_ok (read q) h pc f a l = join (place_code p s q h pc) (read_code s q (place_above q h) h) (place_ok q h pc (address_size q + 1) f.3 a l) (read_ok q h f.0 f.1 f.2)
     ex_ok (unary op e) h pc f a l = join (ex_code p s e h pc) (unary_code op (temp s h) ∷ []) (ex_ok e h pc f.1 a (omega arith)) (unary_ok op h f.0)
     ex_ok (binary at o x y) h pc f a l =
-        let k = f.1 in let w = wide p x in let py = pc + size p x in let i = binary_code o w (temp s h) (temp s (h + w)) in
+        let k = f.1 in let w = wide p x in let c = compared p x y in let py = pc + size p x in let i = binary_code o c (temp s h) (temp s (h + w)) in
         join (ex_code p s x h pc) (ex_code p s y (h + w) py ++ i ∷ []) (ex_ok x h pc f.2 a (omega arith))
-        (join (ex_code p s y (h + w) py) (i ∷ []) (ex_ok y (h + w) py f.3 (omega arith) (omega arith)) (binary_ok o w (temp s h) (temp s (h + w)) f.0 (omega (arith, k)) (omega (arith, k))))
+        (join (ex_code p s y (h + w) py) (i ∷ []) (ex_ok y (h + w) py f.3 (omega arith) (omega arith)) (binary_ok o c (temp s h) (temp s (h + w)) f.0 (omega (arith, k)) (omega (arith, k))))
     ex_ok (logical_and x y) h pc f a l =
         let k = f.0 in let py = pc + size p x + 1 in
         join (ex_code p s x h pc) (JumpZero (temp s h) (py + size p y) ∷ ex_code p s y h py) (ex_ok x h pc f.1 a (omega arith))
@@ -229,13 +346,67 @@ module _ (p : Program) (solid : (site : ℕ) → 0 < site_width p site) (pl : Pl
         join (ex_code p s e h pc) (Move Silent (temp s h) from w ∷ []) (ex_ok e h pc f.2 a (omega arith)) (moved_ok Silent w (temp s h) from [] f.0 (omega (arith, k)) (omega (arith, k)) tt)
     ex_ok (literal m es) h pc f a l =
         let t = type_named p m in let k = f.1 in zeroed_ok (width t) (temp s h) (elements_code p s t (ascend es) es h (pc + 1)) f.0 (omega (arith, k)) (elements_ok t (ascend es) es h (pc + 1) f.2 (omega arith) (omega arith))
-    ex_ok e h pc f a l = absurd f
+    ex_ok (nil m) h pc f a l = let k = f.1 in zeroed_ok (width (type_named p m)) (temp s h) [] f.0 (omega (arith, k)) tt
+    ex_ok (address_of q) h pc f a l = join (place_code p s q h pc) (pointing_code s q (place_above q h) h) (place_ok q h pc (address_size q + 1) f.3 a l) (pointing_ok q h f.0 f.1 f.2)
+    ex_ok (new_variable site) h pc f a l = (omega arith, tt)
+    ex_ok (literal_variable site e) h pc f a l =
+        let w = site_words s site in let k = f.1 in
+        join (ex_code p s e h pc) (new_code s site (h + w) h) (ex_ok e h pc f.2 a (omega arith))
+        (omega (arith, k), ((omega (arith, solid site), omega (arith, k), omega (arith, k)), ((omega arith, omega (arith, k), omega (arith, k)), tt)))
+    ex_ok (slice_literal site es) h pc f a l =
+        let own = sliced_code s site (length (value_widths p es)) (all_wide p es) h in
+        join (exs_code p s es (h + 3) pc) own (exs_ok es (h + 3) pc f.1 a (omega arith)) (sliced_ok site (length (value_widths p es)) (all_wide p es) h f.0)
+    ex_ok (make at site count room) h pc f a l =
+        let k = f.0 in let pb = pc + size p count in let own : List Instr = Make (temp s h) (site_words s site) site ∷ [] in
+        join (ex_code p s count (h + 1) pc) (bound_code p s room (h + 2) pb ++ (room_code s room h ++ own)) (ex_ok count (h + 1) pc f.2 a (omega arith))
+        (join (bound_code p s room (h + 2) pb) (room_code s room h ++ own) (bound_ok room (h + 2) pb f.3 (omega arith) (omega arith))
+        (join (room_code s room h) own (room_ok room h k) ((f.1, omega (arith, k)), tt)))
+    ex_ok (append site e es) h pc f a l =
+        let pe = pc + size p e in let own = append_code s site (length (value_widths p es)) h in
+        join (ex_code p s e h pc) (exs_code p s es (h + 3) pe ++ own ∷ []) (ex_ok e h pc f.2 a (omega arith))
+        (join (exs_code p s es (h + 3) pe) (own ∷ []) (exs_ok es (h + 3) pe f.3 (omega arith) (omega arith)) (append_ok site (length (value_widths p es)) h f.1 f.0))
+    ex_ok (append_slice site e other) h pc f a l =
+        let k = f.0 in let pe = pc + size p e in let own : List Instr = Append Added.Slice (temp s h) (temp s h) (temp s (h + 3)) 0 (site_words s site) site ∷ [] in
+        join (ex_code p s e h pc) (ex_code p s other (h + 3) pe ++ own) (ex_ok e h pc f.2 a (omega arith))
+        (join (ex_code p s other (h + 3) pe) own (ex_ok other (h + 3) pe f.3 (omega arith) (omega arith)) ((f.1, omega (arith, k), omega (arith, k), (omega (arith, k), refl)), tt))
+    ex_ok (copy m e other) h pc f a l =
+        let k = f.0 in let pe = pc + size p e in let own : List Instr = Copy (temp s h) (temp s h) (temp s (h + 3)) (width (type_named p m)) ∷ [] in
+        join (ex_code p s e h pc) (ex_code p s other (h + 3) pe ++ own) (ex_ok e h pc f.2 a (omega arith))
+        (join (ex_code p s other (h + 3) pe) own (ex_ok other (h + 3) pe f.3 (omega arith) (omega arith)) ((f.1, omega (arith, k), omega (arith, k), omega (arith, k)), tt))
+    ex_ok (slicing at m e low high) h pc f a l =
+        let pl = pc + size p e in let within = bound_within low pl in let from = within.0 in let to_end = within.1 in let ph = bound_end p low pl in
+        let cut = cut_code s low high (width (type_named p m)) h in
+        join (ex_code p s e h pc) (bound_code p s low (h + 3) pl ++ (bound_code p s high (h + 4) ph ++ cut)) (ex_ok e h pc f.2 a (omega arith))
+        (join (bound_code p s low (h + 3) pl) (bound_code p s high (h + 4) ph ++ cut) (bound_ok low (h + 3) pl f.3 (omega arith) (omega arith))
+        (join (bound_code p s high (h + 4) ph) cut (bound_ok high (h + 4) ph f.4 (omega (arith, a, from)) (omega (arith, l, to_end))) (cut_ok low high (width (type_named p m)) h f.1 f.0)))
+    ex_ok (array_slicing at q x low high) h pc f a l =
+        let k = f.0 in let pl = pc + place_size p q (address_size q + 1) in let within = bound_within low pl in let from = within.0 in let to_end = within.1 in let ph = bound_end p low pl in
+        let cut = cut_code s low high (element_words s q) h in let whole = whole_code s x h in let point = pointing_code s q (place_above q h) h in
+        let bounds = bound_code p s low (h + 3) pl ++ (bound_code p s high (h + 4) ph ++ (whole ++ cut)) in
+        join (place_code p s q h pc) (point ++ bounds) (place_ok q h pc (address_size q + 1) f.4 a (omega arith))
+        (join point bounds (pointing_ok q h (omega (arith, k)) f.2 f.3)
+        (join (bound_code p s low (h + 3) pl) (bound_code p s high (h + 4) ph ++ (whole ++ cut)) (bound_ok low (h + 3) pl f.5 (omega arith) (omega arith))
+        (join (bound_code p s high (h + 4) ph) (whole ++ cut) (bound_ok high (h + 4) ph f.6 (omega (arith, a, from)) (omega (arith, l, to_end)))
+        (join whole cut (omega (arith, k), (omega (arith, k), tt)) (cut_ok low high (element_words s q) h f.1 k)))))
+    ex_ok (len e) h pc f a l =
+        let k = f.0 in join (ex_code p s e h pc) (Move Silent (temp s h) (temp s (h + 1)) 1 ∷ []) (ex_ok e h pc f.1 a (omega arith)) ((omega arith, omega (arith, k), omega (arith, k)), tt)
+    ex_ok (cap e) h pc f a l =
+        let k = f.0 in join (ex_code p s e h pc) (Move Silent (temp s h) (temp s (h + 2)) 1 ∷ []) (ex_ok e h pc f.1 a (omega arith)) ((omega arith, omega (arith, k), omega (arith, k)), tt)
+
+    bound_ok : (b : Bound) (h pc : ℕ) → BoundFitsIn p s n h b → start ≤ pc → pc + bound_size p b < end → Are (bound_code p s b h pc)
+    bound_ok absent h pc f a l = tt
+    bound_ok (bound e) h pc f a l = ex_ok e h pc f.1 a l
 
     -- the operands of a place, and some instructions after them
     place_ok : (q : Pl) (h pc behind : ℕ) → OperandsFit p s n h q → start ≤ pc → pc + place_size p q behind < end → Are (place_code p s q h pc)
     place_ok (local site steps) h pc behind f a l = steps_ok steps h pc behind f a l
     place_ok (global g steps) h pc behind f a l = steps_ok steps h pc behind f a l
-    place_ok q h pc behind f a l = absurd f
+    place_ok (indirect at e m steps) h pc behind f a l =
+        join (ex_code p s e h pc) (steps_code p s steps (h + 1) (pc + size p e)) (ex_ok e h pc f.1 a (omega arith)) (steps_ok steps (h + 1) (pc + size p e) behind f.2 (omega arith) (omega arith))
+    place_ok (slice_element at e i m steps) h pc behind f a l =
+        let pi = pc + size p e in let ps = pc + size p e + size p i in
+        join (ex_code p s e h pc) (ex_code p s i (h + 3) pi ++ steps_code p s steps (h + 4) ps) (ex_ok e h pc f.1 a (omega arith))
+        (join (ex_code p s i (h + 3) pi) (steps_code p s steps (h + 4) ps) (ex_ok i (h + 3) pi f.2 (omega arith) (omega arith)) (steps_ok steps (h + 4) ps behind f.3 (omega arith) (omega arith)))
 
     steps_ok : (steps : Steps) (h pc behind : ℕ) → StepsFitIn p s n h steps → start ≤ pc → pc + steps_size p steps behind < end → Are (steps_code p s steps h pc)
     steps_ok here h pc behind f a l = tt
@@ -331,16 +502,49 @@ module _ (p : Program) (solid : (site : ℕ) → 0 < site_width p site) (pl : Pl
   key_above (new site) h l f = l
   key_above (to q) h l f = let a = f.1 in omega (arith, a)
 
+  -- an element that is loaded by its address
+  loaded_ok : (a b c x w : ℕ) → 0 < x → 0 < w → a + w ≤ room → b < room → c < room → Are (Index a b c x w ∷ Load a a 0 w ∷ [])
+  loaded_ok a b c x w some wide l m k = ((omega (arith, some), omega (arith, wide), omega (arith, l, wide), m, k), ((omega (arith, wide), l, omega (arith, l, wide)), tt))
+
   -- the element of a site's array, by the index in temp h
   element_ok : (site x h v : ℕ) → SiteFits s n site → 0 < x → 0 < width (part_type (site_type s site) 0) → h < temps → v + 1 + width (part_type (site_type s site) 0) ≤ temps → Are (element_code s site x h v)
   element_ok site x h v f some wide k l =
-      let own = site_in site f in let words = solid site in (
-        (omega arith, omega (arith, l), omega (arith, k)),
-        (
-          (omega (arith, l, wide), omega (arith, own, words)),
-          ((omega (arith, some), omega (arith, wide), omega (arith, l, wide), omega (arith, l, wide), omega (arith, k)), ((omega (arith, wide), omega (arith, l), omega (arith, l, wide)), tt)),
-        ),
-      )
+      let w = width (part_type (site_type s site) 0) in let a = temp s (v + 1) in let i = temp s h in
+      moved_ok Silent 1 (temp s v) i (local_root s site (v + 1) ∷ (Index a a i x w ∷ (Load a a 0 w ∷ []))) (omega arith) (omega (arith, l)) (omega (arith, k))
+      (local_root_ok site (v + 1) (Index a a i x w ∷ (Load a a 0 w ∷ [])) f (omega (arith, l, wide)) (loaded_ok a a i x w some wide (omega (arith, l)) (omega (arith, l, wide)) (omega (arith, k))))
+
+  -- that of an array that the pointer in temp h leads to, by the index above it
+  pointed_ok : (x w h v : ℕ) → 0 < x → 0 < w → h + 1 < temps → v + 1 + w ≤ temps → Are (pointed_code s x w h v)
+  pointed_ok x w h v some wide k l =
+      let a = temp s (v + 1) in let i = temp s (h + 1) in
+      moved_ok Silent 1 (temp s v) i (Index a (temp s h) i x w ∷ (Load a a 0 w ∷ [])) (omega arith) (omega (arith, l)) (omega (arith, k))
+      (loaded_ok a (temp s h) i x w some wide (omega (arith, l)) (omega (arith, k)) (omega (arith, k)))
+
+  -- that of the slice whose header is in temps from h on
+  sliced_element_ok : (w h v : ℕ) → 0 < w → h + 4 < temps → v + 1 + w ≤ temps → Are (sliced_element_code s w h v)
+  sliced_element_ok w h v wide k l =
+      let a = temp s (v + 1) in let i = temp s (h + 3) in
+      moved_ok Silent 1 (temp s v) i (SliceIndex a (temp s h) i w ∷ (Load a a 0 w ∷ [])) (omega arith) (omega (arith, l)) (omega (arith, k))
+      ((omega (arith, wide), omega (arith, l, wide), omega (arith, k), omega (arith, k)), ((omega (arith, wide), omega (arith, l), omega (arith, l, wide)), tt))
+
+  -- a round over it
+  sliced_pair_ok : (w : ℕ) (key value : Left) (h pc : ℕ) → 0 < w → h + 4 < temps → (let v = lefts_above (key ∷ value ∷ []) (h + 4) in ReadyFitIn p s n (h + 4) (key ∷ value ∷ []) × (v + 1 + w ≤ temps) × LeftsFitIn s n (v + 1 + w) v (1 ∷ w ∷ []) (key ∷ value ∷ []))
+      → start ≤ pc → pc + lefts_sized p (key ∷ value ∷ []) (3 + lefts_size (key ∷ value ∷ [])) < end → Are (sliced_pair_code p s w key value h pc)
+  sliced_pair_ok w key value h pc wide k (ready_fit, above, lefts_fit) a l =
+      let ls = key ∷ value ∷ [] in let v = lefts_above ls (h + 4) in
+      let ready = ready_code p s ls (h + 4) pc in let element = sliced_element_code s w h v in let lefts = lefts_code s (1 ∷ w ∷ []) ls (h + 4) (v + 1 + w) v in
+      join ready (element ++ lefts) (ready_ok ls (h + 4) pc (3 + lefts_size ls) ready_fit a l)
+      (join element lefts (sliced_element_ok w h v wide k above) (lefts_ok (1 ∷ w ∷ []) ls (h + 4) (v + 1 + w) v (omega (arith, above)) lefts_fit))
+
+  slice_round_ok : (w : ℕ) (key value : Left) (h pc : ℕ) → 0 < w → h + 4 < temps → SliceRoundFits p s n w h key value → start ≤ pc → pc + slice_round_size p key value < end → Are (slice_round_code p s w key value h pc)
+  slice_round_ok w key blank h pc wide k f a l =
+      let same : h + 4 ≡ h + 3 + 1 = omega arith in
+      let ready = λ (g : ℕ). ready_code p s (key ∷ []) g pc in let lefts = λ (g : ℕ). lefts_code s (1 ∷ []) (key ∷ []) g (lefts_above (key ∷ []) g) (h + 3) in
+      subst (λ (g : ℕ). Are (ready g ++ lefts g)) same
+      (join (ready (h + 4)) (lefts (h + 4)) (ready_ok (key ∷ []) (h + 4) pc (lefts_size (key ∷ [])) f.0 a l)
+      (lefts_ok (1 ∷ []) (key ∷ []) (h + 4) (lefts_above (key ∷ []) (h + 4)) (h + 3) (key_above key (h + 4) (omega (arith, k)) f.1) (omega (arith, k), f.1, f.2, tt)))
+  slice_round_ok w key (new site) h pc wide k f a l = sliced_pair_ok w key (new site) h pc wide k f a l
+  slice_round_ok w key (to q) h pc wide k f a l = sliced_pair_ok w key (to q) h pc wide k f a l
 
   -- the rounds over an array's indices
   array_ok : (x h test behind : ℕ) (round body : List Instr) → h + 1 < temps → Here test → Here behind → Are round → Are body → Are (array_code s x h test behind round body)
@@ -359,44 +563,56 @@ module _ (p : Program) (solid : (site : ℕ) → 0 < site_width p site) (pl : Pl
   named_write_ok : (sites : List ℕ) (h : ℕ) → SitesFit s n sites → h + sites_words s sites ≤ temps → Are (named_write_code s sites h)
   named_write_ok [] h f l = tt
   named_write_ok (site ∷ sites) h f l =
-      moved_ok Write (site_width p site) (site_slot s site) (temp s h) (named_write_code s sites (h + site_width p site)) (solid site) (site_in site f.0) (omega (arith, l)) (named_write_ok sites (h + site_width p site) f.1 (omega (arith, l)))
+      let w = site_width p site in landed_ok (site_access s site) 0 w (temp s h) (named_write_code s sites (h + w)) (solid site) (whole_in site f.0) (omega (arith, l)) (named_write_ok sites (h + w) f.1 (omega (arith, l)))
 
-  named_read_ok : (sites : List ℕ) (i : ℕ) → SitesFit s n sites → i + sites_words s sites ≤ arguments + wanted → Are (named_read_code s sites i)
-  named_read_ok [] i f l = tt
-  named_read_ok (site ∷ sites) i f l =
-      let w = site_width p site in let rest = named_read_code s sites (i + w) in
-      moved_ok Read w (temp s 0) (site_slot s site) (Incoming FromSlots (temp s 0) i w ∷ rest) (solid site) (temp_in site f.0) (site_in site f.0)
-      ((solid site, temp_in site f.0, omega (arith, l)), named_read_ok sites (i + w) f.1 (omega (arith, l)))
+  named_read_ok : (sites : List ℕ) (i : ℕ) → SitesFit s n sites → MovesFit s 0 sites → i + sites_words s sites ≤ arguments + wanted → Are (named_read_code s sites i)
+  named_read_ok [] i f m l = tt
+  named_read_ok (site ∷ sites) i f m l =
+      let w = site_width p site in let rest = named_read_code s sites (i + w) in let k = m.0 in
+      fetched_ok (site_access s site) 0 w (temp s 0) (Incoming FromSlots (temp s 0) i w ∷ rest) (solid site) (whole_in site f.0) (omega (arith, k))
+      ((omega (arith, solid site), omega (arith, k), omega (arith, l)), named_read_ok sites (i + w) f.1 m.1 (omega (arith, l)))
 
-  leave_ok : (named : List ℕ) → SitesFit s n named → sites_words s named ≤ wanted → Are (leave_code s arguments named)
-  leave_ok named f l = join (named_read_code s named arguments) (Return ∷ []) (named_read_ok named arguments f (omega arith)) (tt, tt)
+  leave_ok : (named : List ℕ) → SitesFit s n named → MovesFit s 0 named → sites_words s named ≤ wanted → Are (leave_code s arguments named)
+  leave_ok named f m l = join (named_read_code s named arguments) (Return ∷ []) (named_read_ok named arguments f m (omega arith)) (tt, tt)
 
   values_ok : (named : List ℕ) (k h : ℕ) → SitesFit s n named → ValuesFit s wanted h k named → Are (values_code s arguments k named h)
   values_ok [] k h f v = let a = v.0 in let b = v.1 in result_ok k (temp s h) arguments (omega (arith, a)) (omega (arith, b))
   values_ok (site ∷ sites) zero h f v = tt
   values_ok (site ∷ sites) (suc k) h f v = named_write_ok (site ∷ sites) h f v
 
+  param_ok : (site i m : ℕ) (is : List Instr) → SiteFits s n site → site_width p site ≡ m → (pl.on_heap site ≡ true → m ≤ temps) → i + m ≤ arguments → Are is → Are (param_code s site i m ++ is)
+  param_ok site i m is f same through l k = by (pl.on_heap site) refl
+    where
+      some : 0 < m
+      some = let words = solid site in omega (arith, words, same)
+
+      by : (heap : Bool) → pl.on_heap site ≡ heap → Are (param_by heap s site i m ++ is)
+      by true apart =
+          let t = through apart in let c = cell_in site f apart in
+          born_ok site (Incoming ToSlots (temp s 0) i m ∷ Store Stored.Silent (cell_slot s site) 0 (temp s 0) m ∷ is) f
+          ((omega (arith, some), omega (arith, t), omega (arith, l)), ((omega (arith, some), c, omega (arith, t)), k))
+      by false stays =
+          let own = site_within s n site stays f in born_ok site (Incoming ToSlots (site_slot s site) i m ∷ is) f ((omega (arith, some), omega (arith, own, same), omega (arith, l)), k)
+
   params_ok : (ts : List TypeTree) (ps : List (Option ℕ)) (i : ℕ) → ParamsFitIn s n (each_width ts) ps → i + all_width ts ≤ arguments → Are (params_code s (each_width ts) ps i)
   params_ok ts [] i f l = tt
   params_ok [] (None ∷ ps) i f l = params_ok [] ps (i + 0) f.2 (omega (arith, l))
-  params_ok [] (Some site ∷ ps) i f l = absurd (let some = solid site in let none = f.1 in omega (arith, some, none))
+  params_ok [] (Some site ∷ ps) i f l = absurd (let some = solid site in let none = f.1.0 in omega (arith, some, none))
   params_ok (t ∷ ts) (None ∷ ps) i f l = params_ok ts ps (i + width t) f.2 (omega (arith, l))
   params_ok (t ∷ ts) (Some site ∷ ps) i f l =
-      let some = solid site in let same = f.1 in let k = site_in site f.0 in
-      (k, ((omega (arith, some, same), omega (arith, same, k), omega (arith, l)), params_ok ts ps (i + width t) f.2 (omega (arith, l))))
+      param_ok site i (width t) (params_code s (each_width ts) ps (i + width t)) f.0 f.1.0 f.1.1 (omega (arith, l)) (params_ok ts ps (i + width t) f.2 (omega (arith, l)))
 
   zeros_ok : (sites : List ℕ) → SitesFit s n sites → Are (zeros_code s sites)
   zeros_ok [] f = tt
-  zeros_ok (site ∷ sites) f = (site_in site f.0, zeros_ok sites f.1)
+  zeros_ok (site ∷ sites) f = born_ok site (zeros_code s sites) f.0 (zeros_ok sites f.1)
 
-  renewal_ok : (sites : List ℕ) (h : ℕ) → SitesFit s n sites → RenewFits s h sites → Are (renew_code s sites h)
+  renewal_ok : (sites : List ℕ) (h : ℕ) → SitesFit s n sites → MovesFit s h sites → Are (renew_code s sites h)
   renewal_ok [] h f r = tt
   renewal_ok (site ∷ sites) h f r =
       let w = site_width p site in let k = r.0 in let rest = renew_code s sites h in
-      moved_ok Read w (temp s h) (site_slot s site) (birth_code s site h ++ rest) (solid site) (omega (arith, k)) (site_in site f.0)
-      (birth_ok site h rest f.0 (omega (arith, k)) (renewal_ok sites h f.1 r.1))
+      fetched_ok (site_access s site) 0 w (temp s h) (birth_code s site h ++ rest) (solid site) (whole_in site f.0) (omega (arith, k)) (birth_ok site h rest f.0 (omega (arith, k)) (renewal_ok sites h f.1 r.1))
 
-  module _ (named : List ℕ) (sites : SitesFit s n named) (names : sites_words s named ≤ wanted) where
+  module _ (named : List ℕ) (sites : SitesFit s n named) (moves : MovesFit s 0 named) (names : sites_words s named ≤ wanted) where
     abbrev st_len : St → ℕ
     st_len t = st_size p arguments named t
 
@@ -422,21 +638,21 @@ module _ (p : Program) (solid : (site : ℕ) → 0 < site_width p site) (pl : Pl
           let k = f.0 in let one = f.2 in let at = place_above q h in let v = above_address (far q) at in let sum = above_sum q at in
           let pe = place_end p q pc + (address_size q + 1) in let behind = address_size q + 1 + size p e + 1 + 1 in
           let ends = place_ends p q pc in let sizes = place_sum p q behind in
-          let i = Bin (operation o) (temp s v) (temp s v) (temp s (v + 1)) in let ce = ex_code p s e (v + 1) pe in let cl = land_code s q at v in
+          let i = Bin (operation o) (temp s v) (temp s v) (temp s (v + 1)) in let ce = ex_code p s e (v + 1) pe in let cl = land_code s q h at v in
           let address : AddressFits temps at q = omega (arith, sum, k) in
-          join (place_code p s q h pc) (address_code s q h at ++ fetch_code s q at v ∷ (ce ++ i ∷ (cl ∷ []))) (place_ok q h pc behind f.3 a l)
-          (address_ok q h at (fetch_code s q at v ∷ (ce ++ i ∷ (cl ∷ []))) address (omega (arith, address)) f.1
-          (fetch_ok q at v (ce ++ i ∷ (cl ∷ [])) (omega (arith, k, one)) f.1 address
+          join (place_code p s q h pc) (address_code s q h at ++ fetch_code s q h at v ∷ (ce ++ i ∷ (cl ∷ []))) (place_ok q h pc behind f.3 a l)
+          (address_ok q h at (fetch_code s q h at v ∷ (ce ++ i ∷ (cl ∷ []))) address (omega (arith, address)) f.1
+          (fetch_ok q h at v (ce ++ i ∷ (cl ∷ [])) (omega (arith, k, one)) f.1 address (omega (arith, address))
           (join ce (i ∷ (cl ∷ [])) (ex_ok e (v + 1) pe f.4 (omega (arith, ends, a)) (omega (arith, ends, sizes, l)))
-          ((omega (arith, k), omega (arith, k), omega (arith, k)), land_ok q at v [] (omega (arith, k, one)) f.1 address tt))))
+          ((omega (arith, k), omega (arith, k), omega (arith, k)), land_ok q h at v [] (omega (arith, k, one)) f.1 address (omega (arith, address)) tt))))
       st_ok looped (bump at q o) h out again pc f w r a l =
           let k = f.0 in let one = f.2 in let at = place_above q h in let v = above_address (far q) at in let sum = above_sum q at in
-          let i = Bin (operation o) (temp s v) (temp s v) (temp s (v + 1)) in let c1 = Const (temp s (v + 1)) 1 in let cl = land_code s q at v in
+          let i = Bin (operation o) (temp s v) (temp s v) (temp s (v + 1)) in let c1 = Const (temp s (v + 1)) 1 in let cl = land_code s q h at v in
           let address : AddressFits temps at q = omega (arith, sum, k) in
-          join (place_code p s q h pc) (address_code s q h at ++ fetch_code s q at v ∷ (c1 ∷ (i ∷ (cl ∷ [])))) (place_ok q h pc (address_size q + 1 + 2 + 1) f.3 a l)
-          (address_ok q h at (fetch_code s q at v ∷ (c1 ∷ (i ∷ (cl ∷ [])))) address (omega (arith, address)) f.1
-          (fetch_ok q at v (c1 ∷ (i ∷ (cl ∷ []))) (omega (arith, k, one)) f.1 address
-          (omega (arith, k), ((omega (arith, k), omega (arith, k), omega (arith, k)), land_ok q at v [] (omega (arith, k, one)) f.1 address tt))))
+          join (place_code p s q h pc) (address_code s q h at ++ fetch_code s q h at v ∷ (c1 ∷ (i ∷ (cl ∷ [])))) (place_ok q h pc (address_size q + 1 + 2 + 1) f.3 a l)
+          (address_ok q h at (fetch_code s q h at v ∷ (c1 ∷ (i ∷ (cl ∷ [])))) address (omega (arith, address)) f.1
+          (fetch_ok q h at v (c1 ∷ (i ∷ (cl ∷ []))) (omega (arith, k, one)) f.1 address (omega (arith, address))
+          (omega (arith, k), ((omega (arith, k), omega (arith, k), omega (arith, k)), land_ok q h at v [] (omega (arith, k, one)) f.1 address (omega (arith, address)) tt))))
       st_ok looped (discard es) h out again pc f w r a l = exs_ok es h pc f a l
       st_ok looped (block ss) h out again pc f w r a l = sts_ok looped ss h out again pc f w r a l
       st_ok looped (if_stmt e x y) h out again pc f w r a l =
@@ -514,12 +730,65 @@ module _ (p : Program) (solid : (site : ℕ) → 0 < site_width p site) (pl : Pl
           (join ready (element ++ lefts) (ready_ok ls (h + 1) (begin + 4) (4 + lefts_size ls) f.7 (omega arith) (omega arith))
           (join element lefts (element_ok site x h v f.1 f.3 f.5 (omega (arith, k)) above) (lefts_ok (1 ∷ wide ∷ []) ls (h + 1) (v + 1 + wide) v (omega (arith, above)) f.9)))
           (sts_ok true body (h + 1) behind turn inside f.10 w (λ e. (here_behind, here_turn)) (omega arith) (omega arith))))
-      st_ok looped (range over key value body) h out again pc f w r a l = absurd f
+      st_ok looped (range (over_pointer at e x t) key value body) h out again pc f w r a l =
+          let k = f.0 in let above = f.6 in
+          let ls = key ∷ value ∷ [] in let v = lefts_above ls (h + 2) in let wide = width (type_named p t) in
+          let begin = pc + size p e in
+          let inside = begin + 4 + lefts_sized p ls (3 + lefts_size ls) in
+          let turn = inside + sts_len body in
+          let behind = turn + 3 in
+          let here_behind : Here behind = (omega arith, omega arith) in
+          let here_turn : Here turn = (omega arith, omega arith) in
+          let ready = ready_code p s ls (h + 2) (begin + 4) in let element = pointed_code s x wide h v in let lefts = lefts_code s (1 ∷ wide ∷ []) ls (h + 2) (v + 1 + wide) v in
+          let cb = code body (h + 2) behind turn inside in
+          let rounds = array_code s x (h + 1) (begin + 1) behind (ready ++ (element ++ lefts)) cb in
+          join (ex_code p s e h pc) rounds (ex_ok e h pc f.4 a (omega arith))
+          (array_ok x (h + 1) (begin + 1) behind (ready ++ (element ++ lefts)) cb (omega (arith, k)) (omega arith, omega arith) here_behind
+          (join ready (element ++ lefts) (ready_ok ls (h + 2) (begin + 4) (3 + lefts_size ls) f.5 (omega arith) (omega arith))
+          (join element lefts (pointed_ok x wide h v f.2 f.3 (omega (arith, k)) above) (lefts_ok (1 ∷ wide ∷ []) ls (h + 2) (v + 1 + wide) v (omega (arith, above)) f.7)))
+          (sts_ok true body (h + 2) behind turn inside f.8 w (λ e. (here_behind, here_turn)) (omega arith) (omega arith)))
+      st_ok looped (range (over_pointed x) key value body) h out again pc f w r a l =
+          let k = f.0 in let same : h + 1 + 1 ≡ h + 2 = omega arith in
+          let first = lefts_above (key ∷ []) (h + 2) in
+          let inside = pc + 4 + lefts_sized p (key ∷ []) (lefts_size (key ∷ [])) in
+          let turn = inside + sts_len body in
+          let behind = turn + 3 in
+          let here_behind : Here behind = (omega arith, omega arith) in
+          let here_turn : Here turn = (omega arith, omega arith) in
+          let ready = λ (g : ℕ). ready_code p s (key ∷ []) g (pc + 4) in let lefts = λ (g : ℕ). lefts_code s (1 ∷ []) (key ∷ []) g (lefts_above (key ∷ []) g) (h + 1) in
+          let round : Are (ready (h + 2) ++ lefts (h + 2)) =
+          join (ready (h + 2)) (lefts (h + 2)) (ready_ok (key ∷ []) (h + 2) (pc + 4) (lefts_size (key ∷ [])) f.1 (omega arith) (omega arith)) (lefts_ok (1 ∷ []) (key ∷ []) (h + 2) first (h + 1) (key_above key (h + 2) (omega (arith, k)) f.2) (omega (arith, k), f.2, f.3, tt)) in
+          array_ok x (h + 1) (pc + 1) behind (ready (h + 1 + 1) ++ lefts (h + 1 + 1)) (code body (h + 2) behind turn inside) (omega (arith, k)) (omega arith, omega arith) here_behind
+          (subst (λ (g : ℕ). Are (ready g ++ lefts g)) (sym same) round)
+          (sts_ok true body (h + 2) behind turn inside f.4 w (λ e. (here_behind, here_turn)) (omega arith) (omega arith))
+      st_ok looped (range (over_slice e t) key value body) h out again pc f w r a l =
+          let k = f.0 in let wide = width (type_named p t) in
+          let test = pc + size p e + 1 in
+          let inside = test + 2 + slice_round_size p key value in
+          let turn = inside + sts_len body in
+          let behind = turn + 3 in
+          let here_behind : Here behind = (omega arith, omega arith) in
+          let here_turn : Here turn = (omega arith, omega arith) in
+          let i = temp s (h + 3) in let above = temp s (h + 4) in
+          let round = slice_round_code p s wide key value h (test + 2) in let cb = code body (h + 4) behind turn inside in
+          let last : List Instr = Const above 1 ∷ Bin Word.Add i i above ∷ Jump test ∷ [] in
+          join (ex_code p s e h pc) (Const i 0 ∷ Bin Word.Less above i (temp s (h + 1)) ∷ JumpZero above behind ∷ (round ++ (cb ++ last))) (ex_ok e h pc f.2 a (omega arith)) (
+            omega (arith, k),
+            (
+              (omega (arith, k), omega (arith, k), omega (arith, k)),
+              (
+                (omega (arith, k), here_behind),
+                join round (cb ++ last) (slice_round_ok wide key value h (test + 2) f.1 k f.3 (omega arith) (omega arith))
+                    (join cb last (sts_ok true body (h + 4) behind turn inside f.4 w (λ e. (here_behind, here_turn)) (omega arith) (omega arith))
+                    (omega (arith, k), ((omega (arith, k), omega (arith, k), omega (arith, k)), ((omega arith, omega arith), tt)))),
+              ),
+            ),
+          )
       st_ok looped break_stmt h out again pc f w r a l = ((r w).0, tt)
       st_ok looped continue_stmt h out again pc f w r a l = ((r w).1, tt)
       st_ok looped (return_stmt es) h out again pc f w r a l =
           let values = values_code s arguments (all_wide p es) named h in let leave = leave_code s arguments named in
-          join (exs_code p s es h pc) (values ++ leave) (exs_ok es h pc f.0 a (omega arith)) (join values leave (values_ok named (all_wide p es) h sites f.1) (leave_ok named sites names))
+          join (exs_code p s es h pc) (values ++ leave) (exs_ok es h pc f.0 a (omega arith)) (join values leave (values_ok named (all_wide p es) h sites f.1) (leave_ok named sites moves names))
       st_ok looped (print line ps) h out again pc f w r a l = join (pieces_code p s ps h pc) (show_code s line ps h) (pieces_ok ps h pc f a (omega arith)) (shown_ok line ps h f w)
       st_ok looped (panic at (text number)) h out again pc f w r a l = (w, tt)
       st_ok looped (panic at (shown t e)) h out again pc f w r a l = join (ex_code p s e h pc) (raised_code t (temp s h) ∷ []) (ex_ok e h pc f.1 a (omega arith)) (raised_ok t h f.0)
@@ -570,7 +839,7 @@ module _ (owners : List ℕ) (f start end : ℕ) (own : (p : ℕ) → start ≤ 
   fits_at place slots incoming (Store event a off c n) k (inr g) = (k.0, k.1, k.2, g)
   fits_at place slots incoming (Address a b) k (inr g) = (k.0, k.1, g)
   fits_at place slots incoming (Offset a b off) k (inr g) = (k.0, k.1, g)
-  fits_at place slots incoming (Index a b c len w) k (inr g) = (k.0, k.1, k.2, k.3, k.4, g)
+  fits_at place slots incoming (Index a b c x w) k (inr g) = (k.0, k.1, k.2, k.3, k.4, g)
   fits_at place slots incoming (SliceIndex a b c w) k (inr g) = (k.0, k.1, k.2, k.3, g)
   fits_at place slots incoming (Slice a b c w) k (inr g) = (k.0, k.1, k.2, k.3, g)
   fits_at place slots incoming (Born a n site) k (inr g) = (k, g)
@@ -590,22 +859,26 @@ module _ (owners : List ℕ) (f start end : ℕ) (own : (p : ℕ) → start ≤ 
   fits_at place slots incoming (PanicInt a) k (inr g) = k
   fits_at place slots incoming (PanicBool a) k (inr g) = k
 
-pub all_fit : (p : Program) (pl : Placement) → IsInForm p → IsPlaced p pl → (f : ℕ) (func : Func) → slice_get p.funcs f ≡ Some func → FuncFitsIn p pl func
-all_fit p pl form placed f func is = func_fits p pl func form (form.fits f func is) (placed.stacked f func is)
+-- no type of a program is without words
+abbrev pub AreSolid : Program → Type 0
+AreSolid p = (t : ℕ) → 0 < width (type_named p t)
+
+pub all_fit : (p : Program) (pl : Placement) → IsInForm p → AreSolid p → (f : ℕ) (func : Func) → slice_get p.funcs f ≡ Some func → FuncFitsIn p pl func
+all_fit p pl form solid f func is = func_fits p pl func form solid (form.fits f func is)
 
 -- functions lie one after the other
 laid : (p : Program) (pl : Placement) (gs : List Func) (pc : ℕ) → AreLaid (funcs_entries p pl gs pc) pc
 laid p pl [] pc = tt
-laid p pl (g ∷ gs) pc = (refl, some_size p pl g, laid p pl gs (pc + func_size p g))
+laid p pl (g ∷ gs) pc = (refl, some_size p pl g, laid p pl gs (pc + func_size p pl g))
 
-owned : (p : Program) (pl : Placement) (gs : List Func) (number pc : ℕ) → funcs_owners p gs number ≡ owners_of (funcs_entries p pl gs pc) number
+owned : (p : Program) (pl : Placement) (gs : List Func) (number pc : ℕ) → funcs_owners p pl gs number ≡ owners_of (funcs_entries p pl gs pc) number
 owned p pl [] number pc = refl
-owned p pl (g ∷ gs) number pc = ap (λ l. replicate (func_size p g) number ++ l) (owned p pl gs (number + 1) (pc + func_size p g))
+owned p pl (g ∷ gs) number pc = ap (λ l. replicate (func_size p pl g) number ++ l) (owned p pl gs (number + 1) (pc + func_size p pl g))
 
 unlike : false ≡ true → ⊥
 unlike e = cc
 
-module _ (p : Program) (pl : Placement) (form : IsInForm p) (placed : IsPlaced p pl) where
+module _ (p : Program) (pl : Placement) (form : IsInForm p) (solid : AreSolid p) where
   abbrev strings : ℕ
   strings = length p.strings
 
@@ -613,7 +886,7 @@ module _ (p : Program) (pl : Placement) (form : IsInForm p) (placed : IsPlaced p
   instrs = funcs_code p pl p.funcs 0
 
   abbrev owners : List ℕ
-  owners = funcs_owners p p.funcs 0
+  owners = funcs_owners p pl p.funcs 0
 
   abbrev fns : List Entry
   fns = funcs_entries p pl p.funcs 0
@@ -626,19 +899,19 @@ module _ (p : Program) (pl : Placement) (form : IsInForm p) (placed : IsPlaced p
       let b : results_of p f ≡ result_words func = ap results_in is in
       record { fn = entry_of p pl func (0 + start_of p pl p.funcs f); is = r.entry; room = omega (arith, a, b, room, wide) }
 
-  func_ok : (func : Func) (pc : ℕ) → FuncFitsIn p pl func → StsWithin strings false func.body → All fns strings (frame_of p pl func - 2) (argument_words func + result_words func) pc (pc + func_size p func) (func_code p pl func pc)
+  func_ok : (func : Func) (pc : ℕ) → FuncFitsIn p pl func → StsWithin strings false func.body → All fns strings (frame_of p pl func - 2) (argument_words func + result_words func) pc (pc + func_size p pl func) (func_code p pl func pc)
   func_ok func pc ok within =
       let s = slots_of p pl func in let n = func.count in let m = argument_words func in let long = cells_between pl func.first func.count + words_between pl p.sites func.first func.count in
       let slots : s.outgoing + s.temps + long ≡ frame_of p pl func - 2 = omega arith in
-      let end = pc + func_size p func in
+      let end = pc + func_size p pl func in
       let can_call = can (s.outgoing + s.temps + long) s.outgoing (omega arith) in
-      let body = sts_code p m func.named s func.body 0 0 0 (pc + entry_size p func) in let leave = leave_code s m func.named in
+      let body = sts_code p m func.named s func.body 0 0 0 (pc + entry_size p pl func) in let leave = leave_code s m func.named in
       let params = params_code s (each_width func.param_types) func.params 0 in let zeros = zeros_code s func.named in
       let entry = join p form.solid pl s.outgoing s.temps func.first n fns strings m (result_words func) pc end can_call params zeros
       (params_ok p form.solid pl s.outgoing s.temps func.first n fns strings m (result_words func) pc end can_call func.param_types func.params 0 ok.params (omega arith))
       (zeros_ok p form.solid pl s.outgoing s.temps func.first n fns strings m (result_words func) pc end can_call func.named ok.named) in
-      let inner = sts_ok p form.solid pl s.outgoing s.temps func.first n fns strings m (result_words func) pc end can_call func.named ok.named ok.names false func.body 0 0 0 (pc + entry_size p func) ok.body within (λ e. absurd (unlike e)) (omega arith) (omega arith) in
-      let last = leave_ok p form.solid pl s.outgoing s.temps func.first n fns strings m (result_words func) pc end can_call func.named ok.named ok.names in
+      let inner = sts_ok p form.solid pl s.outgoing s.temps func.first n fns strings m (result_words func) pc end can_call func.named ok.named ok.moves ok.names false func.body 0 0 0 (pc + entry_size p pl func) ok.body within (λ e. absurd (unlike e)) (omega arith) (omega arith) in
+      let last = leave_ok p form.solid pl s.outgoing s.temps func.first n fns strings m (result_words func) pc end can_call func.named ok.named ok.moves ok.names in
       subst (λ k. All fns strings k (m + result_words func) pc end (func_code p pl func pc)) slots
       (join p form.solid pl s.outgoing s.temps func.first n fns strings m (result_words func) pc end can_call (params ++ zeros) (body ++ leave) entry
       (join p form.solid pl s.outgoing s.temps func.first n fns strings m (result_words func) pc end can_call body leave inner last))
@@ -646,7 +919,7 @@ module _ (p : Program) (pl : Placement) (form : IsInForm p) (placed : IsPlaced p
   within : (f : ℕ) (func : Func) → slice_get p.funcs f ≡ Some func → StsWithin strings false func.body
   within f func is = sts_within p func.results (length func.named) false (scope_in func) (body_first func) (func.first + func.count) func.body (form.fits f func is).body
 
-  own : (f : ℕ) (func : Func) → slice_get p.funcs f ≡ Some func → (place : ℕ) → start_of p pl p.funcs f ≤ place → place < start_of p pl p.funcs f + func_size p func → slice_get owners place ≡ Some f
+  own : (f : ℕ) (func : Func) → slice_get p.funcs f ≡ Some func → (place : ℕ) → start_of p pl p.funcs f ≤ place → place < start_of p pl p.funcs f + func_size p pl func → slice_get owners place ≡ Some f
   own f func is place a b =
       let r = stands p pl p.funcs 0 0 f func is in
       let z : start_of p pl p.funcs f + (place - start_of p pl p.funcs f) ≡ place = omega (arith, a) in
@@ -662,14 +935,14 @@ module _ (p : Program) (pl : Placement) (form : IsInForm p) (placed : IsPlaced p
       let there : slice_get (func_code p pl r.func start) r.p ≡ Some i =
       ap (λ q. slice_get (func_code p pl r.func q) r.p) (sym z) ∙ sym (st.code r.p r.within) ∙ ap (λ q. slice_get instrs q) (sym r.at) ∙ h in
       let s = slots_of p pl r.func in
-      let next = ends_so (entry_code p pl r.func) (sts_code p (argument_words r.func) r.func.named s r.func.body 0 0 0 (start + entry_size p r.func)) (named_read_code s r.func.named (argument_words r.func)) r.p i there in
+      let next = ends_so (entry_code p pl r.func) (sts_code p (argument_words r.func) r.func.named s r.func.body 0 0 0 (start + entry_size p pl r.func)) (named_read_code s r.func.named (argument_words r.func)) r.p i there in
       record {
         f = r.k;
         fn = entry_of p pl r.func start;
         owner = own r.k r.func r.is place (let e = r.at in omega (arith, e)) (let e = r.at in let w = r.within in omega (arith, e, w));
         is = st.entry ∙ ap (λ q. Some (entry_of p pl r.func q)) z;
-        fits = fits_at owners r.k start (start + func_size p r.func) (own r.k r.func r.is) fns strings place (frame_of p pl r.func - 2) (argument_words r.func + result_words r.func) i
-            (all_at fns strings (frame_of p pl r.func - 2) (argument_words r.func + result_words r.func) start (start + func_size p r.func) (func_code p pl r.func start) r.p i (func_ok r.func start (all_fit p pl form placed r.k r.func r.is) (within r.k r.func r.is)) there)
+        fits = fits_at owners r.k start (start + func_size p pl r.func) (own r.k r.func r.is) fns strings place (frame_of p pl r.func - 2) (argument_words r.func + result_words r.func) i
+            (all_at fns strings (frame_of p pl r.func - 2) (argument_words r.func + result_words r.func) start (start + func_size p pl r.func) (func_code p pl r.func start) r.p i (func_ok r.func start (all_fit p pl form solid r.k r.func r.is) (within r.k r.func r.is)) there)
             (elim next [
               | inl e ↦ inl e
               | inr last ↦ inr (own r.k r.func r.is (place + 1) (let e = r.at in omega (arith, e)) (let e = r.at in omega (arith, e, last, length_func p pl r.func start)))

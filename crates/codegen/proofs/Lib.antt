@@ -8,3 +8,4 @@ pub mod Whole
 pub mod Sized
 pub mod Above
 pub mod Pairs
+pub mod Parameters

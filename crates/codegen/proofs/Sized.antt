@@ -3,7 +3,7 @@ use Rattle.std.proofs.Common.{◌≡◌, ℕ, ◌+◌, ◌<◌, List, [], ◌∷
 use Rattle.typed.specs.declared.stmt.Left.{Left as LeftData}
 use Rattle.typed_syntax.specs.Syntax.{Left, Program, blank, new, to}
 use Rattle.typed.specs.View.{left_of}
-use Rattle.program_code.specs.Code.{element_round_size, index_round_size, lefts_size, lefts_sized}
+use Rattle.program_code.specs.Code.{index_round_size, lefts_size, lefts_sized}
 use Rattle.program_code.proofs.Sizes.{place_sum, lefts_sum}
 use Rattle.codegen.proofs.Emitted.{split_lefts}
 
@@ -30,6 +30,6 @@ sized_two p blank r n = omega arith
 sized_two p (new site) r n = omega arith
 sized_two p (to q) r n = omega (arith, place_sum p q (lefts_sized p (r ∷ []) n))
 
-pub pair_sized : (p : Program) (l r : Left) → element_round_size p l r ≡ index_round_size p l + index_round_size p r + 4
-pair_sized p l r =
-    omega (arith, sized_two p l r (4 + lefts_size (l ∷ r ∷ [])), sizes_two l r, lefts_sum p (l ∷ []) (lefts_size (l ∷ [])), lefts_sum p (r ∷ []) (lefts_size (r ∷ [])), lefts_sum p (r ∷ []) (4 + lefts_size (l ∷ r ∷ [])))
+pub pair_sized : (p : Program) (l r : Left) (put : ℕ) → lefts_sized p (l ∷ r ∷ []) (put + lefts_size (l ∷ r ∷ [])) ≡ index_round_size p l + index_round_size p r + put
+pair_sized p l r put =
+    omega (arith, sized_two p l r (put + lefts_size (l ∷ r ∷ [])), sizes_two l r, lefts_sum p (l ∷ []) (lefts_size (l ∷ [])), lefts_sum p (r ∷ []) (lefts_size (r ∷ [])), lefts_sum p (r ∷ []) (put + lefts_size (l ∷ r ∷ [])))

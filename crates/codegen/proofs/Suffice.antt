@@ -1,27 +1,23 @@
 -- Where a form needs no more temps than there are, they suffice for all that it holds.
-use Rattle.std.proofs.Common.{◌≡◌, ◌⊎◌, inl, inr, ℕ, zero, suc, ◌+◌, ◌<◌, ◌≤◌, pos, Bool, true, false, List, [], ◌∷◌, Some, length, map, get_or, arith, sym, subst, ap, ◌∙◌, refl, suc-mul}
-use Rattle.std.specs.Prelude.{Option, None, max, slice_get}
+use Rattle.std.proofs.Common.{◌≡◌, ◌⊎◌, inl, inr, ℕ, zero, suc, ◌+◌, ◌*◌, ◌<◌, ◌≤◌, pos, Bool, true, false, List, [], ◌∷◌, Some, length, map, get_or, arith, sym, subst, ap, ◌∙◌, refl, suc-mul}
+use Rattle.std.specs.Prelude.{◌||◌, if◌then◌else◌, Option, None, max, slice_get}
 use Rattle.std.proofs.lemmas.Option.{slice_get_within}
 use Rattle.std.proofs.lemmas.List.{length-map}
 use Rattle.std.proofs.Math.ListN.{get_or-map}
-use Rattle.typed_syntax.specs.Types.{TypeTree, ints, bools, array_of, width, part_count, part_type, part_offset}
+use Rattle.typed_syntax.specs.Types.{TypeTree, ints, bools, array_of, pointer_to, slice_of, width, part_count, part_type, part_offset}
 use Rattle.typed_syntax.specs.Value.{Value, int, bool}
-use Rattle.typed_syntax.specs.Paths.{Leads}
+use Rattle.typed_syntax.specs.Paths.{Leads, type_at}
 use Rattle.value_laws.proofs.Parts.{element, leads_to, within}
-use Rattle.typed_syntax.specs.Syntax.{Ex, Exs, Pl, Steps, Left, Piece, St, Sts, Func, Program, constant, read, unary, binary, logical_and, logical_or, call, part_of, literal, Elements, no_elements, element as element_then, local, global, here, inner, at_index, none, more, results, read_int, blank, new, to, text, shown, over_int, over_length, over_copy, declare, assign, update, bump, discard, block, if_stmt, for_stmt, range, break_stmt, continue_stmt, return_stmt, print, panic, exit, done, next, all_width, each_width, arguments_in, result_words, arguments_of, results_of, type_named, global_type, site_type, site_width, path_of, wide, all_wide, ascend, words_before}
-use Rattle.typed_syntax.specs.Form.{PlFits, StepsLead, ElementsFit, InScope, AllInScope, births, births_all, new_sites, scope_behind, scope_with, scope_after, SitesNext, LeftsFit, ExFits, ExsFit, TestFits, PiecesFit, ReturnFits, StFits, StsFit, ParamsFit, NamedFit, named_params, params_scope, scope_in, body_first, FuncFits, IsInForm}
+use Rattle.typed_syntax.specs.Syntax.{Ex, Exs, Pl, Steps, Left, Piece, St, Sts, Func, Program, constant, read, unary, binary, logical_and, logical_or, call, part_of, literal, Elements, no_elements, element as element_then, nil, address_of, new_variable, literal_variable, slice_literal, make, append, append_slice, copy, slicing, array_slicing, len, cap, Bound, absent, bound, local, global, indirect, slice_element, here, inner, at_index, none, more, results, read_int, blank, new, to, text, shown, over_int, over_length, over_copy, over_slice, over_pointer, over_pointed, declare, assign, update, bump, discard, block, if_stmt, for_stmt, range, break_stmt, continue_stmt, return_stmt, print, panic, exit, done, next, all_width, each_width, arguments_in, result_words, arguments_of, results_of, type_named, global_type, site_type, site_width, path_of, wide, all_wide, value_widths, ascend, words_before}
+use Rattle.typed_syntax.specs.Form.{PlFits, StepsLead, ElementsFit, InScope, AllInScope, births, births_all, new_sites, scope_behind, scope_with, scope_after, SitesNext, LeftsFit, ExFits, BoundFits, AllFit, ExsFit, TestFits, PiecesFit, ReturnFits, StFits, StsFit, ParamsFit, NamedFit, named_params, params_scope, scope_in, body_first, FuncFits, IsInForm}
 use Rattle.frames.specs.Placement.{Placement}
-use Rattle.frames.specs.Frames.{far, left_far, lefts_far, behind_values, place_need, steps_need, elements_need, lefts_need, place_reach, steps_reach, elements_reach, lefts_reach, need, need_all, need_pieces, reach, reach_all, reach_pieces, test_need, test_reach, widest, st_need, sts_need, st_reach, sts_reach}
-use Rattle.program_code.specs.Code.{Slots, other_widths, part_words, global_type as variable_type, global_words, above_address, place_above, lefts_above, slots_of}
+use Rattle.frames.specs.Frames.{far, left_far, lefts_far, behind_values, bound_need, bound_reach, elements_round, pair_need, place_need, steps_need, elements_need, lefts_need, place_reach, steps_reach, elements_reach, lefts_reach, need, need_all, need_pieces, reach, reach_all, reach_pieces, test_need, test_reach, widest, entry_need, temps_of, st_need, sts_need, st_reach, sts_reach}
+use Rattle.program_code.specs.Code.{Slots, other_widths, global_type as variable_type, above_address, compared, element_words, is_nil, near_words, place_above, lefts_above, root_type, site_words, slots_of, steps_of}
 use Rattle.program_code.proofs.Rooms.{address_room, array_room, key_alone, key_room, lefts_others, lefts_room, place_others, place_room}
-use Rattle.program_code.proofs.Wide.{plain_one, takes_some, takes_one, place_is_of, wide_is, all_wide_is, widths_are}
-use Rattle.expression_code.specs.Temps.{SiteFits, IndicesFit, PlaceFits, CallFits, Fits, OperandsFit, StepsFitIn, ElementsFitIn, ExsFitIn, reached}
-use Rattle.codegen.specs.Temps.{SitesFit, ParamsFitIn, LeftFits, left_words, LeftsFitIn, ValuesFit, RenewFits, ReadyFitIn, PiecesFitIn, TestFitsIn, StFitsIn, StsFitIn, FuncFitsIn, sites_words}
+use Rattle.program_code.proofs.Wide.{nilable_some, plain_one, takes_some, takes_one, place_is_of, wide_is, all_wide_is, widths_are}
+use Rattle.expression_code.specs.Temps.{SiteFits, IndicesFit, RootFits, PlaceFits, CallFits, Fits, BoundFitsIn, OperandsFit, StepsFitIn, ElementsFitIn, ExsFitIn}
+use Rattle.codegen.specs.Temps.{SitesFit, ParamsFitIn, LeftFits, left_words, LeftsFitIn, ValuesFit, MovesFit, ReadyFitIn, PiecesFitIn, SliceRoundFits, TestFitsIn, StFitsIn, StsFitIn, FuncFitsIn, sites_words}
 use Rattle.codegen.proofs.Operands.{above_sum}
-
--- the variables of the n sites of a frame live in it
-abbrev pub Stay : Slots → ℕ → Type 0
-Stay s n = (site : ℕ) → s.first ≤ site → site < s.first + n → s.placement.on_heap site ≡ false
 
 -- the sites in scope are among them
 abbrev pub Below : Slots → ℕ → List ℕ → Type 0
@@ -40,11 +36,16 @@ sites_below : (s : Slots) (n : ℕ) (scope sites : List ℕ) → Below s n scope
 sites_below s n scope [] b f = tt
 sites_below s n scope (site ∷ sites) b f = (b site f.0, sites_below s n scope sites b f.1)
 
-next_fit : (s : Slots) (n m : ℕ) (sites : List ℕ) → Stay s n → s.first ≤ m → SitesNext m (s.first + n) sites → SitesFit s n sites
-next_fit s n m [] stay a f = tt
-next_fit s n m (site ∷ sites) stay a f =
+next_fit : (s : Slots) (n m : ℕ) (sites : List ℕ) → s.first ≤ m → SitesNext m (s.first + n) sites → SitesFit s n sites
+next_fit s n m [] a f = tt
+next_fit s n m (site ∷ sites) a f =
     let from : s.first ≤ site = (let e = f.0 in omega (arith, e)) in
-    let behind : site < s.first + n = (let e = f.0 in let k = f.1 in omega (arith, e, k)) in ((from, behind, stay site from behind), next_fit s n (suc m) sites stay (omega arith) f.2)
+    let behind : site < s.first + n = (let e = f.0 in let k = f.1 in omega (arith, e, k)) in ((from, behind), next_fit s n (suc m) sites (omega arith) f.2)
+
+-- results with names have their words
+names_words : (p : Program) (s : Slots) → s.sites ≡ p.sites → (named : List ℕ) → sites_words s named ≡ all_width (map (site_type p) named)
+names_words p s same [] = refl
+names_words p s same (site ∷ sites) = let one : site_words s site ≡ site_width p site = ap (λ (ts : List TypeTree). width (get_or ts site ints)) same in let others = names_words p s same sites in omega (arith, one, others)
 
 -- a part is within its whole
 part_within : (t : TypeTree) (i : ℕ) → i < part_count t → part_offset t i + width (part_type t i) ≤ width t
@@ -60,7 +61,8 @@ array_long : (x : ℕ) (r : TypeTree) → 0 < width r → x ≤ width (array_of 
 array_long zero r l = omega arith
 array_long (suc x) r l = let k = array_long x r l in omega (arith, k, l, suc-mul x (width r))
 
-module _ (p : Program) (form : IsInForm p) where
+-- no type of the program is without words
+module _ (p : Program) (form : IsInForm p) (solid : (t : ℕ) → 0 < width (type_named p t)) where
   -- steps lead to a part, whatever their indices are
   steps_lead : (scope : List ℕ) (t s : TypeTree) (steps : Steps) → StepsLead p scope t steps s → Leads t (path_of steps) s
   steps_lead scope t s here f = f
@@ -84,14 +86,26 @@ module _ (p : Program) (form : IsInForm p) where
   wide_need scope t (read q) f = omega arith
   wide_need scope t (unary op e) f = let l = wide_need scope t e f.1 in let w = wide_is p scope t e f.1 in let one = plain_one t (takes_one op t f.0) in omega arith
   wide_need scope t (binary at op a b) f =
-      let l = wide_need scope f.0 a f.2 in let w = wide_is p scope f.0 a f.2 in let some = takes_some op f.0 t f.1 in omega (arith, l, w, some)
+      let l = wide_need scope f.0 a f.2 in let w = wide_is p scope f.0 a f.2 in let some = takes_some p scope op a b f.0 t f.1 f.2 f.3 in omega (arith, l, w, some)
   wide_need scope t (logical_and a b) f = let l = wide_need scope bools a f.1 in let w = wide_is p scope bools a f.1 in omega arith
   wide_need scope t (logical_or a b) f = let l = wide_need scope bools a f.1 in let w = wide_is p scope bools a f.1 in omega arith
   wide_need scope t (call g es) f = omega arith
   wide_need scope t (part_of m i e) f =
       let s = type_named p m in let l = wide_need scope s e f.3 in let w = wide_is p scope s e f.3 in let part = part_within s i f.0 in omega (arith, l, w, part)
   wide_need scope t (literal m es) f = omega arith
-  wide_need scope t e f = absurd f
+  wide_need scope t (nil m) f = omega arith
+  wide_need scope t (address_of q) f = omega arith
+  wide_need scope t (new_variable site) f = omega arith
+  wide_need scope t (literal_variable site e) f = omega arith
+  wide_need scope t (slice_literal site es) f = omega arith
+  wide_need scope t (make at site count room) f = omega arith
+  wide_need scope t (append site e es) f = omega arith
+  wide_need scope t (append_slice site e other) f = omega arith
+  wide_need scope t (copy m e other) f = omega arith
+  wide_need scope t (slicing at m e low high) f = omega arith
+  wide_need scope t (array_slicing at q x low high) f = omega arith
+  wide_need scope t (len e) (is, (m, f)) = let l = wide_need scope (slice_of m) e f in let w = wide_is p scope (slice_of m) e f in omega (arith, l, w)
+  wide_need scope t (cap e) (is, (m, f)) = let l = wide_need scope (slice_of m) e f in let w = wide_is p scope (slice_of m) e f in omega (arith, l, w)
 
   values_need : (scope : List ℕ) (ts : List TypeTree) (es : Exs) → ExsFit p scope ts es → all_wide p es ≤ need_all p es
   values_need scope ts none f = omega arith
@@ -100,55 +114,110 @@ module _ (p : Program) (form : IsInForm p) where
   values_need scope ts (results g es) f = omega arith
   values_need scope ts read_int f = omega arith
 
+  -- elements of one type are values of their types
+  abbrev each_one : TypeTree → Exs → List TypeTree
+  each_one t none = []
+  each_one t (more e es) = t ∷ each_one t es
+  each_one t es = []
+
+  all_fit : (scope : List ℕ) (t : TypeTree) (es : Exs) → AllFit p scope t es → ExsFit p scope (each_one t es) es
+  all_fit scope t none f = tt
+  all_fit scope t (more e es) f = (f.0, all_fit scope t es f.1)
+  all_fit scope t (results g es) f = absurd f
+  all_fit scope t read_int f = absurd f
+
+  all_words : (scope : List ℕ) (t : TypeTree) (es : Exs) → AllFit p scope t es → length (value_widths p es) * width t ≡ all_wide p es
+  all_words scope t none f = omega arith
+  all_words scope t (more e es) f =
+      let one = wide_is p scope t e f.0 in let others = all_words scope t es f.1 in omega (arith, one, others, suc-mul (length (value_widths p es)) (width t))
+  all_words scope t (results g es) f = absurd f
+  all_words scope t read_int f = absurd f
+
+  -- a slice wants the temps of its header
+  header_need : (scope : List ℕ) (m : ℕ) (e : Ex) → ExFits p scope (slice_of m) e → 3 ≤ need p e
+  header_need scope m e f = let l = wide_need scope (slice_of m) e f in let w = wide_is p scope (slice_of m) e f in omega (arith, l, w)
+
   -- a number or a truth value wants a temp
   some_need : (scope : List ℕ) (t : TypeTree) (e : Ex) → width t ≡ 1 → ExFits p scope t e → 0 < need p e
   some_need scope t e one f = let l = wide_need scope t e f in let w = wide_is p scope t e f in omega arith
 
   -- the frame's slots
-  module _ (pl : Placement) (outgoing temps first n : ℕ) (stay : (site : ℕ) → first ≤ site → site < first + n → pl.on_heap site ≡ false) where
+  module _ (pl : Placement) (outgoing temps first n : ℕ) where
     abbrev s : Slots
-    s = record { outgoing = outgoing; temps = temps; first = first; count = n; placement = pl; sites = p.sites; globals = map (λ g. g.0) p.globals }
+    s = record { outgoing = outgoing; temps = temps; first = first; count = n; placement = pl; types = p.types; sites = p.sites; globals = map (λ g. g.0) p.globals }
 
     -- the next site
     next_fits : (m site : ℕ) → first ≤ m → site ≡ m → m < first + n → SiteFits s n site
-    next_fits m site a is last = let from : first ≤ site = omega (arith, a, is) in let behind : site < first + n = omega (arith, is, last) in (from, behind, stay site from behind)
+    next_fits m site a is last = let from : first ≤ site = omega (arith, a, is) in let behind : site < first + n = omega (arith, is, last) in (from, behind)
 
     -- the type of a package variable, by its site
     same_global : (g : ℕ) → variable_type s g ≡ global_type p g
     same_global g = ap (λ site. get_or p.sites site ints) (get_or-map (λ (v : ℕ × Value). v.0) p.globals g (0, int (pos 0)))
 
-    global_leads : (scope : List ℕ) (t : TypeTree) (g : ℕ) (steps : Steps) → PlFits p scope t (global g steps) → StepsLead p scope (variable_type s g) steps t
-    global_leads scope t g steps f = subst (λ u. StepsLead p scope u steps t) (sym (same_global g)) f.1
+    -- the steps of a place lead from what it begins at to its part
+    root_leads : (scope : List ℕ) (t : TypeTree) (q : Pl) → PlFits p scope t q → StepsLead p scope (root_type s q) (steps_of q) t
+    root_leads scope t (local v steps) f = f.1
+    root_leads scope t (global g steps) f = subst (λ u. StepsLead p scope u steps t) (sym (same_global g)) f.1
+    root_leads scope t (indirect at e m steps) f = f.1
+    root_leads scope t (slice_element at e i m steps) f = f.2
 
-    global_width : (scope : List ℕ) (t : TypeTree) (g : ℕ) (steps : Steps) → PlFits p scope t (global g steps) → global_words s g steps ≡ width t
-    global_width scope t g steps f =
-        let own = variable_type s g in ap width (leads_to own t (path_of steps) (steps_lead scope own t steps (global_leads scope t g steps f)))
+    root_fits : (scope : List ℕ) (t : TypeTree) (q : Pl) → Below s n scope → PlFits p scope t q → RootFits s n q
+    root_fits scope t (local v steps) b f = b v f.0
+    root_fits scope t (global g steps) b f = let there = f.0 in omega (arith, there, length-map p.globals (λ (v : ℕ × Value). v.0))
+    root_fits scope t (indirect at e m steps) b f = tt
+    root_fits scope t (slice_element at e i m steps) b f = tt
 
-    renew_fits : (h : ℕ) (sites : List ℕ) → h + widest p sites ≤ temps → RenewFits s h sites
-    renew_fits h [] l = tt
-    renew_fits h (site ∷ sites) l = (omega arith, renew_fits h sites (omega arith))
+    -- the part has words
+    some_words : (scope : List ℕ) (t : TypeTree) (q : Pl) → PlFits p scope t q → 0 < width t
+    some_words scope t (local v steps) f = f.2
+    some_words scope t (global g steps) f = f.2
+    some_words scope t (indirect at e m steps) f = f.2
+    some_words scope t (slice_element at e i m steps) f = f.3
+
+    -- as many as its type
+    part_is : (scope : List ℕ) (t : TypeTree) (q : Pl) → PlFits p scope t q → type_at (root_type s q) (path_of (steps_of q)) ≡ t
+    part_is scope t q f = let own = root_type s q in let path = path_of (steps_of q) in leads_to own t path (steps_lead scope own t (steps_of q) (root_leads scope t q f))
+
+    words_are : (scope : List ℕ) (t : TypeTree) (q : Pl) → PlFits p scope t q → near_words s q ≡ width t
+    words_are scope t q f = ap width (part_is scope t q f)
+
+    -- an array that is sliced has elements, with their words
+    elements_are : (scope : List ℕ) (x : ℕ) (r : TypeTree) (q : Pl) → PlFits p scope (array_of x r) q → element_words s q ≡ width r
+    elements_are scope x r q f =
+        let some = array_some x r (some_words scope (array_of x r) q f) in
+        ap width (ap (λ u. part_type u 0) (part_is scope (array_of x r) q f) ∙ ((element x r r 0 [] some).leads refl).1)
+
+    moves_fit : (h : ℕ) (sites : List ℕ) → h + widest p sites ≤ temps → MovesFit s h sites
+    moves_fit h [] l = tt
+    moves_fit h (site ∷ sites) l = (omega arith, moves_fit h sites (omega arith))
 
     place_fits : (scope : List ℕ) (t : TypeTree) (q : Pl) → Below s n scope → PlFits p scope t q → PlaceFits s n q
-    place_fits scope t (local v steps) b f =
-        let own = site_type p v in let path = path_of steps in let leads = steps_lead scope own t steps f.1 in
-        let is : part_words s v path ≡ width t = ap width (leads_to own t path leads) in
-        let some = f.2 in let l = within own t path leads in
-        (b v f.0, omega (arith, is, some), omega (arith, is, l), indices_fit scope own t steps f.1 some)
-    place_fits scope t (global g steps) b f =
-        let own = variable_type s g in let lead = global_leads scope t g steps f in let is = global_width scope t g steps f in
-        let there = f.0 in let some = f.2 in let l = within own t (path_of steps) (steps_lead scope own t steps lead) in
-        (omega (arith, there, length-map p.globals (λ (v : ℕ × Value). v.0)), omega (arith, is, some), omega (arith, is, l), indices_fit scope own t steps lead some)
-    place_fits scope t q b f = absurd f
+    place_fits scope t q b f =
+        let own = root_type s q in let leads = root_leads scope t q f in let is = words_are scope t q f in let some = some_words scope t q f in
+        let l = within own t (path_of (steps_of q)) (steps_lead scope own t (steps_of q) leads) in
+        (root_fits scope t q b f, omega (arith, is, some), omega (arith, is, l), indices_fit scope own t (steps_of q) leads some)
 
-    -- the words of a place are those of its type
-    reached_is : (scope : List ℕ) (t : TypeTree) (q : Pl) → PlFits p scope t q → reached s q ≤ width t
-    reached_is scope t (local v steps) f = let is : part_words s v (path_of steps) ≡ width t = ap width (leads_to (site_type p v) t (path_of steps) (steps_lead scope (site_type p v) t steps f.1)) in omega (arith, is)
-    reached_is scope t (global g steps) f = let is = global_width scope t g steps f in omega (arith, is)
-    reached_is scope t q f = absurd f
+    words_most : (scope : List ℕ) (t : TypeTree) (q : Pl) → PlFits p scope t q → near_words s q ≤ width t
+    words_most scope t q f = let is = words_are scope t q f in omega (arith, is)
 
     -- the words of a place are among those that it needs
-    reached_need : (scope : List ℕ) (t : TypeTree) (q : Pl) → PlFits p scope t q → reached s q ≤ need p (read q)
-    reached_need scope t q f = let l = reached_is scope t q f in let w = ap width (place_is_of p scope t q f) in omega (arith, l, w)
+    words_need : (scope : List ℕ) (t : TypeTree) (q : Pl) → PlFits p scope t q → near_words s q ≤ need p (read q)
+    words_need scope t q f = let l = words_most scope t q f in let w = ap width (place_is_of p scope t q f) in omega (arith, l, w)
+
+    -- how many words are compared
+    compared_some : (a c : Ex) → 0 < wide p a → 0 < compared p a c
+    compared_some a c some = by (is_nil a || is_nil c)
+      where
+        by : (none : Bool) → 0 < (if none then 1 else wide p a)
+        by true = omega arith
+        by false = some
+
+    compared_most : (a c : Ex) (k : ℕ) → wide p a ≤ k → 0 < k → compared p a c ≤ k
+    compared_most a c k l some = by (is_nil a || is_nil c)
+      where
+        by : (none : Bool) → (if none then 1 else wide p a) ≤ k
+        by true = omega (arith, some)
+        by false = l
 
     call_fits : (h f : ℕ) (func : Func) (scope : List ℕ) (es : Exs) → slice_get p.funcs f ≡ Some func → ExsFit p scope func.param_types es → h + need_all p es ≤ temps → h + results_of p f ≤ temps → arguments_of p f + results_of p f ≤ outgoing → CallFits p s n h f
     call_fits h f func scope es is fit l r o =
@@ -167,11 +236,14 @@ module _ (p : Program) (form : IsInForm p) where
       ex_fits h scope t (constant (bool c)) b f l o = omega arith
       ex_fits h scope t (constant v) b f l o = absurd f.1
       ex_fits h scope t (read q) b f l o =
-          (omega (arith, reached_need scope t q f, l), place_fits scope t q b f, place_room p temps h (far q) q (omega (arith, l)), operands_fit h scope t q (far q) 0 b f (omega (arith, l)) o)
+          (omega (arith, words_need scope t q f, l), place_fits scope t q b f, place_room p temps h (far q) q (omega (arith, l)), operands_fit h scope t q (far q) 0 b f (omega (arith, l)) o)
       ex_fits h scope t (unary op e) b f l o = ((let k = some_need scope t e (plain_one t (takes_one op t f.0)) f.1 in omega arith), ex_fits h scope t e b f.1 l o)
       ex_fits h scope t (binary at op a c) b f l o = (
-        (let some = takes_some op f.0 t f.1 in let w = wide_is p scope f.0 a f.2 in omega (arith, some, w)),
-        (let k = wide_need scope f.0 c f.3 in let w = wide_is p scope f.0 a f.2 in let v = wide_is p scope f.0 c f.3 in omega (arith, k, w, v, l)),
+        (let some = takes_some p scope op a c f.0 t f.1 f.2 f.3 in let w = wide_is p scope f.0 a f.2 in compared_some a c (omega (arith, some, w))),
+        (
+            let some = takes_some p scope op a c f.0 t f.1 f.2 f.3 in let k = wide_need scope f.0 c f.3 in let w = wide_is p scope f.0 a f.2 in let v = wide_is p scope f.0 c f.3 in
+            let most = compared_most a c (need p c) (omega (arith, k, w, v)) (omega (arith, some, k, v)) in omega (arith, most, l)
+            ),
         ex_fits h scope f.0 a b f.2 (omega arith) (omega arith),
         ex_fits (h + wide p a) scope f.0 c b f.3 (omega arith) (omega arith),
       )
@@ -193,13 +265,60 @@ module _ (p : Program) (form : IsInForm p) where
             omega (arith, l),
             elements_fit h scope s (ascend es) es b (subst (λ u. ElementsFit p scope u es) (sym f.0) f.2) (omega (arith, l)) (omega (arith, l)) o,
           )
-      ex_fits h scope t e b f l o = absurd f
+      ex_fits h scope t (nil m) b f l o = (let is = ap width f.0 in let some = nilable_some t f.1 in omega (arith, is, some), l)
+      ex_fits h scope t (address_of q) b (m, same, fit, taken) l o =
+          (omega arith, place_fits scope (type_named p m) q b fit, place_room p temps h (far q) q (omega arith), operands_fit h scope (type_named p m) q (far q) 0 b fit (omega arith) o)
+      ex_fits h scope t (new_variable site) b f l o = omega arith
+      ex_fits h scope t (literal_variable site e) b f l o =
+          (form.solid site, (let is = wide_is p scope (site_type p site) e f.1 in omega (arith, is, l)), ex_fits h scope (site_type p site) e b f.1 (omega arith) o)
+      ex_fits h scope t (slice_literal site es) b f l o =
+          let u = site_type p site in let each = all_fit scope u es f.1 in let most = values_need scope (each_one u es) es each in
+          (omega (arith, most, l), exs_fit (h + 3) scope (each_one u es) es b each (omega arith) (omega (arith, o)))
+      ex_fits h scope t (make at site count room) b f l o =
+          (omega arith, form.solid site, ex_fits (h + 1) scope ints count b f.1 (omega arith) (omega arith), bound_fits (h + 2) scope room b f.2 (omega arith) (omega arith))
+      ex_fits h scope t (append site e es) b f l o =
+          let u = site_type p site in let each = all_fit scope u es f.2 in let most = values_need scope (each_one u es) es each in let words = all_words scope u es f.2 in
+          (omega (arith, most, words, l), form.solid site, ex_fits h scope t e b f.1 (omega arith) (omega arith), exs_fit (h + 3) scope (each_one u es) es b each (omega arith) (omega arith))
+      ex_fits h scope t (append_slice site e other) b f l o =
+          let header = header_need scope f.0.0 other (subst (λ u. ExFits p scope u other) f.0.1 f.2) in
+          (omega (arith, header, l), form.solid site, ex_fits h scope t e b f.1 (omega arith) (omega arith), ex_fits (h + 3) scope t other b f.2 (omega arith) (omega arith))
+      ex_fits h scope t (copy m e other) b f l o =
+          let header = header_need scope m other f.3 in
+          (omega (arith, header, l), f.1, ex_fits h scope (slice_of m) e b f.2 (omega arith) (omega arith), ex_fits (h + 3) scope (slice_of m) other b f.3 (omega arith) (omega arith))
+      ex_fits h scope t (slicing at m e low high) b f l o =
+          (omega arith, f.1, ex_fits h scope t e b f.2 (omega arith) (omega arith), bound_fits (h + 3) scope low b f.3 (omega arith) (omega arith), bound_fits (h + 4) scope high b f.4 (omega arith) (omega arith))
+      ex_fits h scope t (array_slicing at q x low high) b (m, same, few, fit, taken, low_fit, high_fit) l o =
+          let r = type_named p m in let u = array_of x r in let words = elements_are scope x r q fit in let some = solid m in (
+            omega arith,
+            omega (arith, words, some),
+            place_fits scope u q b fit,
+            place_room p temps h (far q) q (omega arith),
+            operands_fit h scope u q (far q) 0 b fit (omega arith) (omega arith),
+            bound_fits (h + 3) scope low b low_fit (omega arith) (omega arith),
+            bound_fits (h + 4) scope high b high_fit (omega arith) (omega arith),
+          )
+      ex_fits h scope t (len e) b (is, (m, f)) l o = let header = header_need scope m e f in (omega (arith, header, l), ex_fits h scope (slice_of m) e b f l o)
+      ex_fits h scope t (cap e) b (is, (m, f)) l o = let header = header_need scope m e f in (omega (arith, header, l), ex_fits h scope (slice_of m) e b f l o)
+
+      bound_fits : (h : ℕ) (scope : List ℕ) (c : Bound) → Below s n scope → BoundFits p scope c → h + bound_need p c ≤ temps → bound_reach p c ≤ outgoing → BoundFitsIn p s n h c
+      bound_fits h scope absent b f l o = tt
+      bound_fits h scope (bound e) b f l o = (let k = some_need scope ints e refl f in omega (arith, k, l), ex_fits h scope ints e b f l o)
 
       -- the operands of a place, and some temps after them
       operands_fit : (h : ℕ) (scope : List ℕ) (t : TypeTree) (q : Pl) (behind others : ℕ) → Below s n scope → PlFits p scope t q → h + place_need p q behind ≤ temps → place_reach p q others ≤ outgoing → OperandsFit p s n h q
       operands_fit h scope t (local v steps) behind others b f l o = steps_fit h scope (site_type p v) t steps behind others b f.1 l o
       operands_fit h scope t (global g steps) behind others b f l o = steps_fit h scope (global_type p g) t steps behind others b f.1 l o
-      operands_fit h scope t q behind others b f l o = absurd f
+      operands_fit h scope t (indirect at e m steps) behind others b f l o = (
+        (let k = some_need scope (pointer_to m) e refl f.0 in omega (arith, k, l)),
+        ex_fits h scope (pointer_to m) e b f.0 (omega (arith, l)) (omega (arith, o)),
+        steps_fit (h + 1) scope (type_named p m) t steps behind others b f.1 (omega (arith, l)) (omega (arith, o)),
+      )
+      operands_fit h scope t (slice_element at e i m steps) behind others b f l o = (
+        omega (arith, l),
+        ex_fits h scope (slice_of m) e b f.0 (omega (arith, l)) (omega (arith, o)),
+        ex_fits (h + 3) scope ints i b f.1 (omega (arith, l)) (omega (arith, o)),
+        steps_fit (h + 4) scope (type_named p m) t steps behind others b f.2 (omega (arith, l)) (omega (arith, o)),
+      )
 
       steps_fit : (h : ℕ) (scope : List ℕ) (u t : TypeTree) (steps : Steps) (behind others : ℕ) → Below s n scope → StepsLead p scope u steps t → h + steps_need p steps behind ≤ temps → steps_reach p steps others ≤ outgoing
           → StepsFitIn p s n h steps
@@ -264,7 +383,7 @@ module _ (p : Program) (form : IsInForm p) where
     lefts_fit at h scope m (t ∷ ts) (to q ∷ ls) a b f l k = (
       omega arith,
       (place_fits scope t q b f.0, omega arith),
-      reached_is scope t q f.0,
+      words_most scope t q f.0,
       lefts_fit at (h + width t) scope m ts ls a b f.1 (omega arith) (omega arith),
     )
 
@@ -284,7 +403,33 @@ module _ (p : Program) (form : IsInForm p) where
     key_fits : (at : ℕ) (scope : List ℕ) (m : ℕ) (key : Left) → first ≤ m → Below s n scope → LeftsFit p scope m (first + n) (ints ∷ []) (key ∷ []) → at + left_far key ≤ temps → LeftFits s n at key × (left_words s key ≤ 1)
     key_fits at scope m blank a b f l = (tt, omega arith)
     key_fits at scope m (new site) a b f l = (next_fits m site a f.0 f.1, (let e = ap width f.2 in omega (arith, e)))
-    key_fits at scope m (to q) a b f l = ((place_fits scope ints q b f.0, l), reached_is scope ints q f.0)
+    key_fits at scope m (to q) a b f l = ((place_fits scope ints q b f.0, l), words_most scope ints q f.0)
+
+    -- the left sides of a round over a slice of elements of a type
+    first_fit : (scope : List ℕ) (m : ℕ) (r : TypeTree) (key : Left) → LeftsFit p scope m (first + n) (ints ∷ r ∷ []) (key ∷ blank ∷ []) → LeftsFit p scope m (first + n) (ints ∷ []) (key ∷ [])
+    first_fit scope m r blank f = tt
+    first_fit scope m r (new site) f = (f.0, f.1, f.2, tt)
+    first_fit scope m r (to q) f = (f.0, tt)
+
+    pair_fits : (h : ℕ) (scope : List ℕ) (m : ℕ) (r : TypeTree) (ls : List Left) (others : ℕ) → first ≤ m → Below s n scope → LeftsFit p scope m (first + n) (ints ∷ r ∷ []) ls → h + pair_need p ls (1 + width r) ≤ temps → lefts_reach p ls others ≤ outgoing
+        → (let v = lefts_above ls h in ReadyFitIn p s n h ls × (v + 1 + width r ≤ temps) × LeftsFitIn s n (v + 1 + width r) v (1 ∷ width r ∷ []) ls)
+    pair_fits h scope m r ls others a b f l o =
+        let w = width r in let v = lefts_above ls h in let behind = max (1 + w) (behind_values (1 + w) (lefts_far ls)) in
+        let room = lefts_room p temps h behind ls l in let address = address_room temps v (1 + w) (lefts_far ls) (omega (arith, room)) (omega (arith, room)) in (
+          ready_fit h scope m (first + n) (ints ∷ r ∷ []) ls behind others b f l o,
+          omega (arith, room),
+          lefts_fit (v + 1 + w) v scope m (ints ∷ r ∷ []) ls a b f (omega (arith, room)) (omega (arith, address)),
+        )
+
+    slice_round_fits : (h : ℕ) (scope : List ℕ) (m : ℕ) (r : TypeTree) (key value : Left) (others : ℕ) → first ≤ m → Below s n scope → LeftsFit p scope m (first + n) (ints ∷ r ∷ []) (key ∷ value ∷ []) → h + (4 + elements_round p (width r) key value) ≤ temps
+        → lefts_reach p (key ∷ value ∷ []) others ≤ outgoing → SliceRoundFits p s n (width r) h key value
+    slice_round_fits h scope m r key blank others a b f l o =
+        let fit = first_fit scope m r key f in let alone = key_alone p key others in let room = array_room p temps (h + 3) key (omega (arith, l)) in
+        let above : h + 4 + lefts_need p (key ∷ []) (left_far key) ≤ temps = omega (arith, room) in
+        let gets = key_fits (lefts_above (key ∷ []) (h + 4)) scope m key a b fit (lefts_room p temps (h + 4) (left_far key) (key ∷ []) above) in
+        (ready_fit (h + 4) scope m (first + n) (ints ∷ []) (key ∷ []) (left_far key) others b fit above (omega (arith, alone, o)), gets.0, gets.1)
+    slice_round_fits h scope m r key (new site) others a b f l o = pair_fits (h + 4) scope m r (key ∷ new site ∷ []) others a b f (omega (arith, l)) o
+    slice_round_fits h scope m r key (to q) others a b f l o = pair_fits (h + 4) scope m r (key ∷ to q ∷ []) others a b f (omega (arith, l)) o
 
     below_behind : (m : ℕ) (scope around : List ℕ) (ts : List TypeTree) (ls : List Left) → first ≤ m → Below s n scope → LeftsFit p around m (first + n) ts ls → Below s n (scope_behind scope ls)
     below_behind m scope around ts [] a b f = b
@@ -294,14 +439,9 @@ module _ (p : Program) (form : IsInForm p) where
         below_behind (suc m) (site ∷ scope) around ts ls (omega arith) (below_more s n site scope (next_fits m site a f.0 f.1) b) f.3
     below_behind m scope around (t ∷ ts) (to q ∷ ls) a b f = below_behind m scope around ts ls a b f.1
 
-    -- results with names have their words
-    names_words : (named : List ℕ) → sites_words s named ≡ all_width (map (site_type p) named)
-    names_words [] = refl
-    names_words (site ∷ sites) = ap (λ k. site_width p site + k) (names_words sites)
-
     module _ (wanted : List TypeTree) (named : List ℕ) where
       below_after : (looped : Bool) (m : ℕ) (scope : List ℕ) (t : St) → first ≤ m → Below s n scope → StFits p wanted (length named) looped scope m (first + n) t → Below s n (scope_after scope t)
-      below_after looped m scope (declare sites) a b f = below_with s n scope sites b (next_fit s n m sites stay a f)
+      below_after looped m scope (declare sites) a b f = below_with s n scope sites b (next_fit s n m sites a f)
       below_after looped m scope (assign ls es) a b f = below_behind m scope scope f.0 ls a b f.1
       below_after looped m scope (update at q op e) a b f = b
       below_after looped m scope (bump at q op) a b f = b
@@ -344,7 +484,7 @@ module _ (p : Program) (form : IsInForm p) where
 
         mutual
           st_fits : (looped : Bool) (h m : ℕ) (scope : List ℕ) (t : St) → first ≤ m → Below s n scope → StFits p wanted (length named) looped scope m (first + n) t → h + st_need p named t ≤ temps → st_reach p t ≤ outgoing → StFitsIn p s n (all_width wanted) named h t
-          st_fits looped h m scope (declare sites) a b f k o = next_fit s n m sites stay a f
+          st_fits looped h m scope (declare sites) a b f k o = next_fit s n m sites a f
           st_fits looped h m scope (assign ls es) a b (ts, lefts, fit) k o =
               let words = all_wide_is p scope ts es fit in let values = lefts_above ls h in
               let behind = max (need_all p es) (behind_values (all_wide p es) (lefts_far ls)) in
@@ -362,17 +502,14 @@ module _ (p : Program) (form : IsInForm p) where
               let above = place_room p temps h (far q + 1 + need p e) q k in let calls = place_others p (reach p e) q in (
                 (let c = some_need scope ints e refl f.2 in omega (arith, above, sum, c)),
                 place_fits scope ints q b f.1,
-                reached_is scope ints q f.1,
+                words_most scope ints q f.1,
                 operands_fit h scope ints q (far q + 1 + need p e) (reach p e) b f.1 k o,
                 ex_fits (v + 1) scope ints e b f.2 (omega (arith, above, sum)) (omega (arith, calls, o)),
               )
           st_fits looped h m scope (bump at q op) a b f k o =
               let sum = above_sum q (place_above q h) in let above = place_room p temps h (far q + 2) q k in
-              (omega (arith, above, sum), place_fits scope ints q b f.1, reached_is scope ints q f.1, operands_fit h scope ints q (far q + 2) 0 b f.1 k o)
-          st_fits looped h m scope (discard (results g es)) a b (ts, fit) k o = exs_fit h scope ts (results g es) b fit k o
-          st_fits looped h m scope (discard none) a b f k o = absurd f
-          st_fits looped h m scope (discard (more e es)) a b f k o = absurd f
-          st_fits looped h m scope (discard read_int) a b f k o = k
+              (omega (arith, above, sum), place_fits scope ints q b f.1, words_most scope ints q f.1, operands_fit h scope ints q (far q + 2) 0 b f.1 k o)
+          st_fits looped h m scope (discard es) a b (ts, fit) k o = exs_fit h scope ts es b fit k o
           st_fits looped h m scope (block ss) a b f k o = sts_fit looped h m scope ss a b f k o
           st_fits looped h m scope (if_stmt e x y) a b f k o = (
             (let c = some_need scope bools e refl f.0 in omega arith),
@@ -383,7 +520,7 @@ module _ (p : Program) (form : IsInForm p) where
           st_fits looped h m scope (for_stmt sites test post body) a b f k o = (
             test_fits h scope test b f.1 (omega arith) (omega arith),
             sites_below s n scope sites b f.0,
-            renew_fits h sites (omega arith),
+            moves_fit h sites (omega arith),
             sts_fit false h m scope post a b f.2 (omega arith) (omega arith),
             sts_fit true h (m + births_all post) scope body (omega arith) b f.3 (omega arith) (omega arith),
           )
@@ -414,7 +551,7 @@ module _ (p : Program) (form : IsInForm p) where
               let ls = key ∷ value ∷ [] in let v = lefts_above ls (h + 1) in let w = width (part_type (site_type p site) 0) in
               let behind = max (1 + w) (behind_values (1 + w) (lefts_far ls)) in
               let room = lefts_room p temps (h + 1) behind ls (omega arith) in let calls = lefts_others p (sts_reach p body) ls in
-              let from : first ≤ site = omega (arith, place, a) in let own : SiteFits s n site = (from, within_n, stay site from within_n) in
+              let from : first ≤ site = omega (arith, place, a) in let own : SiteFits s n site = (from, within_n) in
               let around = below_more s n site scope own b in
               let some : 0 < x = array_some x r (subst (λ u. 0 < width u) is (form.solid site)) in
               let same : w ≡ width r = ap width (ap (λ u. part_type u 0) is ∙ ((element x r r 0 [] some).leads refl).1) in
@@ -432,7 +569,42 @@ module _ (p : Program) (form : IsInForm p) where
                 subst (λ j. LeftsFitIn s n (v + 1 + w) v (1 ∷ j ∷ []) ls) (sym same) (lefts_fit (v + 1 + w) v (site ∷ scope) m (ints ∷ r ∷ []) ls a around lefts (omega (arith, room, same)) (omega (arith, address))),
                 sts_fit true (h + 1) (m + new_sites ls + 1) (scope_behind (site ∷ scope) ls) body (omega (arith, a)) (below_behind m (site ∷ scope) (site ∷ scope) (ints ∷ r ∷ []) ls a around lefts) inner_fit (omega arith) (omega (arith, calls, o)),
               )
-          st_fits looped h m scope (range over key value body) a b f k o = absurd f
+          st_fits looped h m scope (range (over_pointer at e x t) key value body) a b (arr, is, wide, few, used, fit, lefts, inner_fit) k o =
+              let ls = key ∷ value ∷ [] in let v = lefts_above ls (h + 2) in let r = type_named p t in let w = width r in
+              let behind = max (1 + w) (behind_values (1 + w) (lefts_far ls)) in
+              let room = lefts_room p temps (h + 2) behind ls (omega arith) in let calls = lefts_others p (sts_reach p body) ls in
+              let some : 0 < x = array_some x r (subst (λ u. 0 < width u) is (solid arr)) in
+              let words = ap width is in let wanted = some_need scope (pointer_to arr) e refl fit in
+              let address = address_room temps v (1 + w) (lefts_far ls) (omega (arith, room)) (omega (arith, room)) in (
+                omega arith,
+                (arr, omega (arith, words, array_long x r wide)),
+                some,
+                wide,
+                ex_fits h scope (pointer_to arr) e b fit (omega arith) (omega (arith, o)),
+                ready_fit (h + 2) scope m (first + n) (ints ∷ r ∷ []) ls behind (sts_reach p body) b lefts (omega arith) (omega (arith, o)),
+                omega (arith, room),
+                lefts_fit (v + 1 + w) v scope m (ints ∷ r ∷ []) ls a b lefts (omega (arith, room)) (omega (arith, address)),
+                sts_fit true (h + 2) (m + new_sites ls) (scope_behind scope ls) body (omega arith) (below_behind m scope scope (ints ∷ r ∷ []) ls a b lefts) inner_fit (omega arith) (omega (arith, calls, o)),
+              )
+          st_fits looped h m scope (range (over_pointed x) key blank body) a b f k o =
+              let above = key_room p temps h key (omega arith) in let calls = lefts_others p (sts_reach p body) (key ∷ []) in let alone = key_alone p key (sts_reach p body) in
+              let fit = key_fits (lefts_above (key ∷ []) (h + 2)) scope m key a b f.1 (lefts_room p temps (h + 2) (left_far key) (key ∷ []) above) in (
+                omega arith,
+                ready_fit (h + 2) scope m (first + n) (ints ∷ []) (key ∷ []) (left_far key) (sts_reach p body) b f.1 above (omega (arith, alone, o)),
+                fit.0,
+                fit.1,
+                sts_fit true (h + 2) (m + new_sites (key ∷ [])) (scope_behind scope (key ∷ [])) body (omega arith) (below_behind m scope scope (ints ∷ []) (key ∷ []) a b f.1) f.2 (omega arith) (omega (arith, calls, alone, o)),
+              )
+          st_fits looped h m scope (range (over_pointed x) key (new site) body) a b f k o = absurd f
+          st_fits looped h m scope (range (over_pointed x) key (to q) body) a b f k o = absurd f
+          st_fits looped h m scope (range (over_slice e t) key value body) a b (wide, fit, lefts, inner_fit) k o =
+              let ls = key ∷ value ∷ [] in let r = type_named p t in let calls = lefts_others p (sts_reach p body) ls in (
+                omega arith,
+                wide,
+                ex_fits h scope (slice_of t) e b fit (omega arith) (omega (arith, o)),
+                slice_round_fits h scope m r key value (sts_reach p body) a b lefts (omega (arith, k)) (omega (arith, o)),
+                sts_fit true (h + 4) (m + new_sites ls) (scope_behind scope ls) body (omega arith) (below_behind m scope scope (ints ∷ r ∷ []) ls a b lefts) inner_fit (omega arith) (omega (arith, calls, o)),
+              )
           st_fits looped h m scope break_stmt a b f k o = tt
           st_fits looped h m scope continue_stmt a b f k o = tt
           st_fits looped h m scope (return_stmt es) a b f k o = (returned h scope es b f (omega arith) o, return_fits h scope es f (omega arith))
@@ -447,46 +619,48 @@ module _ (p : Program) (form : IsInForm p) where
               (st_fits looped h m scope x a b f.0 (omega arith) (omega arith), sts_fit looped h (m + births x) (scope_after scope x) xs (omega arith) (below_after looped m scope x a b f.0) f.1 (omega arith) (omega arith))
 
 -- parameters and results with names are sites of the frame
-params_fit : (p : Program) (pl : Placement) (f : Func) (m : ℕ) (ts : List TypeTree) (ps : List (Option ℕ)) → Stay (slots_of p pl f) f.count → f.first ≤ m → m + named_params ps ≤ f.first + f.count → ParamsFit p m ts ps
+params_fit : (p : Program) (pl : Placement) (f : Func) (m : ℕ) (ts : List TypeTree) (ps : List (Option ℕ)) → entry_need pl ps ts ≤ temps_of p pl f → f.first ≤ m → m + named_params ps ≤ f.first + f.count → ParamsFit p m ts ps
     → ParamsFitIn (slots_of p pl f) f.count (each_width ts) ps
-params_fit p pl f m ts [] stay a b fit = tt
-params_fit p pl f m [] (None ∷ ps) stay a b fit = absurd fit
-params_fit p pl f m [] (Some site ∷ ps) stay a b fit = absurd fit
-params_fit p pl f m (t ∷ ts) (None ∷ ps) stay a b fit = (tt, tt, params_fit p pl f m ts ps stay a b fit)
-params_fit p pl f m (t ∷ ts) (Some site ∷ ps) stay a b fit =
+params_fit p pl f m ts [] k a b fit = tt
+params_fit p pl f m [] (None ∷ ps) k a b fit = absurd fit
+params_fit p pl f m [] (Some site ∷ ps) k a b fit = absurd fit
+params_fit p pl f m (t ∷ ts) (None ∷ ps) k a b fit = (tt, tt, params_fit p pl f m ts ps k a b fit)
+params_fit p pl f m (t ∷ ts) (Some site ∷ ps) k a b fit =
     let from : f.first ≤ site = (let e = fit.0 in omega (arith, e)) in
-    let behind : site < f.first + f.count = (let e = fit.0 in omega (arith, e)) in ((from, behind, stay site from behind), ap width fit.1, params_fit p pl f (suc m) ts ps stay (omega arith) (omega arith) fit.2)
+    let behind : site < f.first + f.count = (let e = fit.0 in omega (arith, e)) in
+    let apart : pl.on_heap site ≡ true → width t ≤ temps_of p pl f = λ is. (let w = ap (λ (heap : Bool). if heap then width t else 0) is in omega (arith, w, k)) in
+    ((from, behind), (ap width fit.1, apart), params_fit p pl f (suc m) ts ps (omega (arith, k)) (omega arith) (omega arith) fit.2)
 
-named_fit : (p : Program) (s : Slots) (n m : ℕ) (sites : List ℕ) → Stay s n → s.first ≤ m → m + length sites ≤ s.first + n → NamedFit p m sites → SitesFit s n sites
-named_fit p s n m [] stay a l f = tt
-named_fit p s n m (site ∷ sites) stay a l f =
+named_fit : (p : Program) (s : Slots) (n m : ℕ) (sites : List ℕ) → s.first ≤ m → m + length sites ≤ s.first + n → NamedFit p m sites → SitesFit s n sites
+named_fit p s n m [] a l f = tt
+named_fit p s n m (site ∷ sites) a l f =
     let from : s.first ≤ site = (let e = f.0 in omega (arith, e)) in
-    let behind : site < s.first + n = (let e = f.0 in omega (arith, e)) in ((from, behind, stay site from behind), named_fit p s n (suc m) sites stay (omega arith) (omega arith) f.1)
+    let behind : site < s.first + n = (let e = f.0 in omega (arith, e)) in ((from, behind), named_fit p s n (suc m) sites (omega arith) (omega arith) f.1)
 
 below_params : (s : Slots) (n : ℕ) (scope ns : List ℕ) (ps : List (Option ℕ)) → Below s n scope → ParamsFitIn s n ns ps → Below s n (params_scope scope ps)
 below_params s n scope ns [] b f = b
 below_params s n scope ns (None ∷ ps) b f = below_params s n scope (other_widths ns) ps b f.2
 below_params s n scope ns (Some site ∷ ps) b f = below_params s n (site ∷ scope) (other_widths ns) ps (below_more s n site scope f.0 b) f.2
 
-names_are : (p : Program) (pl : Placement) (f : Func) → IsInForm p → FuncFits p f → Stay (slots_of p pl f) f.count → (f.named ≡ []) ⊎ (sites_words (slots_of p pl f) f.named ≡ result_words f)
-names_are p pl f form fit stay =
-    let s = slots_of p pl f in elim fit.names [ inl e ↦ inl e | inr e ↦ inr (names_words p form pl s.outgoing s.temps f.first f.count stay f.named ∙ ap all_width e) ]
+names_are : (p : Program) (pl : Placement) (f : Func) → FuncFits p f → (f.named ≡ []) ⊎ (sites_words (slots_of p pl f) f.named ≡ result_words f)
+names_are p pl f fit = elim fit.names [ inl e ↦ inl e | inr e ↦ inr (names_words p (slots_of p pl f) refl f.named ∙ ap all_width e) ]
 
 names_fit : (s : Slots) (named : List ℕ) (wanted : ℕ) → (named ≡ []) ⊎ (sites_words s named ≡ wanted) → sites_words s named ≤ wanted
 names_fit s named wanted (inl e) = let q = ap (sites_words s) e in omega (arith, q)
 names_fit s named wanted (inr e) = omega (arith, e)
 
-pub func_fits : (p : Program) (pl : Placement) (f : Func) → IsInForm p → FuncFits p f → Stay (slots_of p pl f) f.count → FuncFitsIn p pl f
-func_fits p pl f form fit stay =
+pub func_fits : (p : Program) (pl : Placement) (f : Func) → IsInForm p → ((t : ℕ) → 0 < width (type_named p t)) → FuncFits p f → FuncFitsIn p pl f
+func_fits p pl f form solid fit =
     let s = slots_of p pl f in
-    let params = params_fit p pl f f.first f.param_types f.params stay (omega arith) (omega (arith, fit.count)) fit.params in
-    let named = named_fit p s f.count (f.first + named_params f.params) f.named stay (omega arith) (omega (arith, fit.count)) fit.named in
+    let params = params_fit p pl f f.first f.param_types f.params (omega arith) (omega arith) (omega (arith, fit.count)) fit.params in
+    let named = named_fit p s f.count (f.first + named_params f.params) f.named (omega arith) (omega (arith, fit.count)) fit.named in
     let scope = below_with s f.count (params_scope [] f.params) f.named (below_params s f.count [] (each_width f.param_types) f.params (λ v i. absurd i) params) named in
-    let names = names_are p pl f form fit stay in
+    let names = names_are p pl f fit in
     record {
       params = params;
       named = named;
       names = names_fit s f.named (result_words f) names;
-      body = sts_fit p form pl s.outgoing s.temps f.first f.count stay f.results f.named names false 0 (body_first f) (scope_in f) f.body (omega arith) scope fit.body (omega arith) (omega arith);
+      moves = moves_fit p form solid pl s.outgoing s.temps f.first f.count 0 f.named (omega arith);
+      body = sts_fit p form solid pl s.outgoing s.temps f.first f.count f.results f.named names false 0 (body_first f) (scope_in f) f.body (omega arith) scope fit.body (omega arith) (omega arith);
       small = fit.small;
     }

@@ -1,7 +1,7 @@
 -- Strings that there are, and `break` and `continue` inside loops alone.
 use Rattle.std.specs.Prelude.{◌≡◌, ℕ, ◌+◌, ◌<◌, ⊤, Bool, true, false, List, [], ◌∷◌, length}
 use Rattle.typed_syntax.specs.Types.{TypeTree}
-use Rattle.typed_syntax.specs.Syntax.{Piece, St, Sts, Program, blank, new, to, text, shown, over_int, over_length, over_copy, declare, assign, update, bump, discard, block, if_stmt, for_stmt, range, break_stmt, continue_stmt, return_stmt, print, panic, exit, done, next}
+use Rattle.typed_syntax.specs.Syntax.{Piece, St, Sts, Program, blank, new, to, text, shown, over_int, over_length, over_copy, over_slice, over_pointer, over_pointed, declare, assign, update, bump, discard, block, if_stmt, for_stmt, range, break_stmt, continue_stmt, return_stmt, print, panic, exit, done, next}
 use Rattle.typed_syntax.specs.Form.{births, births_all, new_sites, scope_behind, scope_after, PieceFits, PiecesFit, StFits, StsFit}
 
 abbrev pub PieceWithin : (strings : ℕ) → Piece → Type 0
@@ -63,7 +63,11 @@ module _ (p : Program) (wanted : List TypeTree) (named : ℕ) where
     st_within looped scope m n (range (over_length x) key (to q) body) f = absurd f
     st_within looped scope m n (range (over_copy site e x) key value body) f =
         sts_within true (scope_behind (site ∷ scope) (key ∷ value ∷ [])) (m + new_sites (key ∷ value ∷ []) + 1) n body f.8
-    st_within looped scope m n (range over key value body) f = absurd f
+    st_within looped scope m n (range (over_pointer at e x t) key value body) f = sts_within true (scope_behind scope (key ∷ value ∷ [])) (m + new_sites (key ∷ value ∷ [])) n body f.7
+    st_within looped scope m n (range (over_pointed x) key blank body) f = sts_within true (scope_behind scope (key ∷ [])) (m + new_sites (key ∷ [])) n body f.2
+    st_within looped scope m n (range (over_pointed x) key (new site) body) f = absurd f
+    st_within looped scope m n (range (over_pointed x) key (to q) body) f = absurd f
+    st_within looped scope m n (range (over_slice e t) key value body) f = sts_within true (scope_behind scope (key ∷ value ∷ [])) (m + new_sites (key ∷ value ∷ [])) n body f.3
     st_within looped scope m n break_stmt f = f
     st_within looped scope m n continue_stmt f = f
     st_within looped scope m n (return_stmt es) f = tt

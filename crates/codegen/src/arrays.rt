@@ -1,22 +1,23 @@
-//! The parts of `range` over arrays. The index is in temp h, and what it is compared with, or grows by, in the one above it.
+//! The parts of `range` over arrays. The index is in temp h, and what it is compared with, or grows by, in the one above it. Where a
+//! pointer leads to the array, that is in temp h, and both others in the next ones.
 ghost use Rattle.std.specs.Prelude.{◌≡◌, ◌+◌, ◌<◌, ◌≤◌, ◌++◌, ◌∷◌, [], IfOk, OnOk, length};
 ghost use Rattle.isa.specs.declared.instr.Instr.{Instr};
 ghost use Rattle.isa.specs.declared.instr.BinOp.{BinOp};
 ghost use Rattle.typed_syntax.specs.Types.{width, part_type};
-ghost use Rattle.typed_syntax.specs.Syntax.{argument_words};
+ghost use Rattle.typed_syntax.specs.Syntax.{argument_words, type_named};
 ghost use Rattle.typed.specs.View.{ex_of, left_of, program_of, sts_of};
 ghost use Rattle.expression_code.specs.Frame.{func_in, slots_in, IsLaid};
 ghost use Rattle.expression_code.specs.Temps.{Fits, SiteFits};
 ghost use Rattle.codegen.specs.Temps.{LeftsFitIn, ReadyFitIn};
-ghost use Rattle.program_code.specs.Code.{birth_code, element_code, element_round_code, ex_code, lefts_above, site_type, site_words, size, sts_size, temp};
+ghost use Rattle.program_code.specs.Code.{birth_code, element_code, element_round_code, ex_code, lefts_above, pointed_code, pointed_round_code, site_type, site_words, size, sts_size, temp};
 
 use crate::assigning::{above_left, emit_left, ready_left};
 use crate::births::emit_birth;
 use crate::looping::{behind_value, pass_unless_less, round_goals};
 use crate::stmt_lengths::ARRAY_HEAD;
-use base::{NoMemory, SiteId};
-use expression_code::{Frame, Goals, emit_expr, plus, put, silent};
-use frame_layout::element_words;
+use base::{NoMemory, SiteId, TypeId};
+use expression_code::{Frame, Goals, emit_expr, local_root, plus, put, silent};
+use frame_layout::{element_words, type_words};
 use isa::Instr;
 use typed::{Expr, Func, Left, Program, Stmt};
 
@@ -96,6 +97,30 @@ pub fn emit_array_start(
     pass_unless_less(code, below, index, below, out)
 }
 
+// The w words of an element go to slots from a on: the one with the index in slot c of the array of `len` elements that begins at the
+// address in slot b.
+fn load_element(
+    code: &mut Vec<Instr>,
+    a: u16,
+    b: u16,
+    c: u16,
+    len: u16,
+    w: u16,
+) -> Result<(), NoMemory>
+    ensures { OnOk result (code.new.items ≡ code.old.items ++ Instr.Index a b c len w ∷ Instr.Load a a 0 w ∷ []) }
+{
+    put(code, Instr::Index { a, b, c, len, w })?;
+    put(
+        code,
+        Instr::Load {
+            a,
+            b: a,
+            off: 0,
+            n: w,
+        },
+    )
+}
+
 // The index in temp h and the element of a site's array, of `count`, go to temps from v on.
 fn emit_element(
     code: &mut Vec<Instr>,
@@ -106,43 +131,17 @@ fn emit_element(
     h: u16,
     v: u16,
 ) -> Result<(), NoMemory>
-    requires temps { (h ≤ frame.now.temps) × (v + 1 ≤ frame.now.temps) }
+    requires temps { (h ≤ frame.now.temps) × (v + 1 + width (part_type (site_type (slots_in program.now frame.now) site.0) 0) ≤ frame.now.temps) }
     requires site { SiteFits (slots_in program.now frame.now) frame.now.sites site.0 }
     requires count { count ≤ site_words (slots_in program.now frame.now) site.0 }
-    requires words { width (part_type (site_type (slots_in program.now frame.now) site.0) 0) ≤ 65535 }
     requires frame { IsLaid program.now frame.now }
     ensures { OnOk result (code.new.items ≡ code.old.items ++ element_code (slots_in program.now frame.now) site.0 count h v) }
 {
     let (index, a) = (frame.temp(h), frame.temp(v + 1));
     let (len, w) = (count as u16, element_words(program, site) as u16);
     put(code, silent(1, frame.temp(v), index))?;
-    put(
-        code,
-        Instr::Address {
-            a,
-            b: frame.of_site(program, site),
-        },
-    )?;
-    put(
-        code,
-        Instr::Index {
-            a,
-            b: a,
-            c: index,
-            len,
-            w,
-        },
-    )?;
-    put(
-        code,
-        Instr::Load {
-            a,
-            b: a,
-            off: 0,
-            n: w,
-        },
-    )?;
-    Ok(())
+    put(code, local_root(program, frame, site, v + 1))?;
+    load_element(code, a, a, index, len, w)
 }
 
 /// A round over the elements of a copy, of `count`: left sides get the index and the element.
@@ -180,6 +179,66 @@ pub fn emit_pair(
     ready_left(code, program, frame, key, first)?;
     ready_left(code, program, frame, value, second)?;
     emit_element(code, program, frame, site, count, h, v)?;
+    emit_left(code, program, frame, key, first, at, v)?;
+    emit_left(code, program, frame, value, second, at, v + 1)?;
+    Ok(())
+}
+
+// The index in temp h + 1 and the element of the array of `count` elements of a type that the pointer in temp h leads to go to temps
+// from v on.
+fn emit_pointed(
+    code: &mut Vec<Instr>,
+    program: &Program,
+    frame: &Frame,
+    count: u64,
+    type_id: TypeId,
+    h: u16,
+    v: u16,
+) -> Result<(), NoMemory>
+    requires temps { (h + 1 ≤ frame.now.temps) × (v + 1 + width (type_named (program_of program.now) type_id.0) ≤ frame.now.temps) }
+    requires count { count ≤ 65535 }
+    requires frame { IsLaid program.now frame.now }
+    ensures { OnOk result (code.new.items ≡ code.old.items ++ pointed_code (slots_in program.now frame.now) count
+        (width (type_named (program_of program.now) type_id.0)) h v) }
+{
+    let (pointer, index) = (frame.temp(h), frame.temp(h + 1));
+    let (len, w) = (count as u16, type_words(program, type_id) as u16);
+    put(code, silent(1, frame.temp(v), index))?;
+    load_element(code, frame.temp(v + 1), pointer, index, len, w)
+}
+
+/// A round over the elements of such an array: left sides get the index and the element.
+pub fn emit_pointed_pair(
+    code: &mut Vec<Instr>,
+    program: &Program,
+    frame: &Frame,
+    count: u64,
+    type_id: TypeId,
+    key: &Left,
+    value: &Left,
+    h: u16,
+) -> Result<(), NoMemory>
+    requires count { count ≤ 65535 }
+    requires ready { ReadyFitIn (program_of program.now) (slots_in program.now frame.now) frame.now.sites (h + 2)
+        (left_of key.now ∷ left_of value.now ∷ []) }
+    requires room { lefts_above (left_of key.now ∷ left_of value.now ∷ []) (h + 2) + 1 + width
+        (type_named (program_of program.now) type_id.0) ≤ frame.now.temps }
+    requires lefts { LeftsFitIn (slots_in program.now frame.now) frame.now.sites
+        (lefts_above (left_of key.now ∷ left_of value.now ∷ []) (h + 2) + 1 + width (type_named (program_of program.now) type_id.0))
+        (lefts_above (left_of key.now ∷ left_of value.now ∷ []) (h + 2))
+        (1 ∷ width (type_named (program_of program.now) type_id.0) ∷ []) (left_of key.now ∷ left_of value.now ∷ []) }
+    requires frame { IsLaid program.now frame.now }
+    ensures { OnOk result (code.new.items ≡ code.old.items
+        ++ pointed_round_code (program_of program.now) (slots_in program.now frame.now) count
+        (width (type_named (program_of program.now) type_id.0)) (left_of key.now) (left_of value.now) h (length code.old.items)) }
+{
+    let first = h + 2;
+    let second = above_left(key, first);
+    let v = above_left(value, second);
+    let at = v + 1 + type_words(program, type_id) as u16;
+    ready_left(code, program, frame, key, first)?;
+    ready_left(code, program, frame, value, second)?;
+    emit_pointed(code, program, frame, count, type_id, h, v)?;
     emit_left(code, program, frame, key, first, at, v)?;
     emit_left(code, program, frame, value, second, at, v + 1)?;
     Ok(())

@@ -6,9 +6,9 @@ ghost use Rattle.typed_syntax.specs.Syntax.{all_wide, value_widths};
 ghost use Rattle.frames.specs.Frames.{far};
 ghost use Rattle.expression_code.specs.Frame.{slots_in, IsLaid};
 ghost use Rattle.codegen.specs.Frame.{assign_code, bump_code, left_code, update_code};
-ghost use Rattle.expression_code.specs.Temps.{ExsFitIn, Fits, OperandsFit, PlaceFits, reached};
+ghost use Rattle.expression_code.specs.Temps.{ExsFitIn, Fits, OperandsFit, PlaceFits};
 ghost use Rattle.codegen.specs.Temps.{LeftFits, LeftsFitIn, ReadyFitIn};
-ghost use Rattle.program_code.specs.Code.{above_address as above_address_of, lefts_above as above_all, lefts_code, place_above, ready_code};
+ghost use Rattle.program_code.specs.Code.{above_address as above_address_of, lefts_above as above_all, lefts_code, near_words, place_above, ready_code};
 
 use crate::births::emit_birth;
 use base::NoMemory;
@@ -188,7 +188,7 @@ pub fn emit_update(
 ) -> Result<(), NoMemory>
     requires room { above_address_of (far (place_of place.now)) (place_above (place_of place.now) h) + 1 < frame.now.temps }
     requires place { PlaceFits (slots_in program.now frame.now) frame.now.sites (place_of place.now)
-        × (reached (slots_in program.now frame.now) (place_of place.now) ≤ 1) }
+        × (near_words (slots_in program.now frame.now) (place_of place.now) ≤ 1) }
     requires operands { OperandsFit (program_of program.now) (slots_in program.now frame.now) frame.now.sites h
         (place_of place.now) }
     requires operand { Fits (program_of program.now) (slots_in program.now frame.now) frame.now.sites
@@ -202,10 +202,10 @@ pub fn emit_update(
     let at = above_operands(place, h);
     let value = above_address(place, at);
     emit_address(code, program, frame, place, h, at)?;
-    emit_fetch(code, program, frame, place, at, value)?;
+    emit_fetch(code, program, frame, place, h, at, value)?;
     emit_expr(code, program, frame, e, value + 1)?;
     emit_operation(code, program, frame, op, value)?;
-    emit_land(code, program, frame, place, at, value)?;
+    emit_land(code, program, frame, place, h, at, value)?;
     Ok(())
 }
 
@@ -221,7 +221,7 @@ pub fn emit_bump(
 ) -> Result<(), NoMemory>
     requires room { above_address_of (far (place_of place.now)) (place_above (place_of place.now) h) + 1 < frame.now.temps }
     requires place { PlaceFits (slots_in program.now frame.now) frame.now.sites (place_of place.now)
-        × (reached (slots_in program.now frame.now) (place_of place.now) ≤ 1) }
+        × (near_words (slots_in program.now frame.now) (place_of place.now) ≤ 1) }
     requires operands { OperandsFit (program_of program.now) (slots_in program.now frame.now) frame.now.sites h
         (place_of place.now) }
     requires frame { IsLaid program.now frame.now }
@@ -233,10 +233,10 @@ pub fn emit_bump(
     let at = above_operands(place, h);
     let value = above_address(place, at);
     emit_address(code, program, frame, place, h, at)?;
-    emit_fetch(code, program, frame, place, at, value)?;
+    emit_fetch(code, program, frame, place, h, at, value)?;
     let a = frame.temp(value + 1);
     put(code, Instr::Const { a, word: 1 })?;
     emit_operation(code, program, frame, op, value)?;
-    emit_land(code, program, frame, place, at, value)?;
+    emit_land(code, program, frame, place, h, at, value)?;
     Ok(())
 }

@@ -1,13 +1,15 @@
 //! The code of statements.
 ghost use Rattle.std.specs.Prelude.{◌≡◌, ◌++◌, OnOk, length};
-ghost use Rattle.typed_syntax.specs.Syntax.{argument_words, blank, over_int, over_length, range, result_words};
+ghost use Rattle.typed_syntax.specs.Syntax.{argument_words, blank, over_int, over_length, over_slice, range, result_words};
 ghost use Rattle.typed.specs.View.{ex_of, left_of, program_of, st_of, sts_of};
 ghost use Rattle.expression_code.specs.Frame.{func_in, slots_in, IsLaid};
 ghost use Rattle.codegen.specs.Frame.{Returns};
 ghost use Rattle.codegen.specs.Temps.{StFitsIn, StsFitIn};
 ghost use Rattle.program_code.specs.Code.{st_code, sts_code};
 
-use crate::arrays::{array_goals, behind_copy, emit_array_start, emit_copy, emit_pair};
+use crate::arrays::{
+    array_goals, behind_copy, emit_array_start, emit_copy, emit_pair, emit_pointed_pair,
+};
 use crate::assigning::{emit_assign, emit_bump, emit_update};
 use crate::looping::{
     behind_value, count_goals, emit_count_start, emit_count_test, emit_key, emit_renewal,
@@ -15,9 +17,12 @@ use crate::looping::{
 };
 use crate::returning::{emit_return, emit_zeros};
 use crate::shown::{emit_exit, emit_print, emit_raised};
-use crate::stmt_lengths::{key_len, pair_len, stmts_len};
-use base::NoMemory;
-use expression_code::{Frame, Goals, emit_expr, emit_values, here, jump, pass_unless, plus, put};
+use crate::slices::{emit_slice_round, emit_slice_start, emit_slice_test, slice_goals};
+use crate::stmt_lengths::{ELEMENT, POINTED, key_len, pair_len, stmts_len};
+use base::{NoMemory, TypeId};
+use expression_code::{
+    Frame, Goals, emit_expr, emit_values, expr_len, here, jump, pass_unless, plus, put,
+};
 use isa::Instr;
 use typed::{Expr, Func, Left, Piece, Program, Stmt};
 
@@ -72,15 +77,31 @@ fn emit_stmt(
         }
         Stmt::Elements(site, e, count, key, value, body) => {
             let begin = behind_copy(program, start, e)?;
-            let inner = array_goals(program, func, begin, pair_len(program, key, value)?, body)?;
+            let round = pair_len(program, key, value, ELEMENT)?;
+            let inner = array_goals(program, func, begin, round, body)?;
             emit_copy(code, program, frame, *site, e, h)?;
             emit_array_start(code, program, frame, *count, h, inner.out)?;
             emit_pair(code, program, frame, *site, *count, key, value, h)?;
             emit_stmts(code, program, frame, func, body, h + 1, inner)?;
             emit_turn(code, program, frame, h, plus(begin, 1)?)?;
         }
-        // These have no code yet.
-        Stmt::SliceElements(..) | Stmt::PointedElements(..) | Stmt::PointedIndices(..) => {}
+        Stmt::PointedElements(_, e, count, type_id, key, value, body) => {
+            let begin = plus(start, expr_len(program, e)?)?;
+            let round = pair_len(program, key, value, POINTED)?;
+            let inner = array_goals(program, func, begin, round, body)?;
+            emit_expr(code, program, frame, e, h)?;
+            emit_array_start(code, program, frame, *count, h + 1, inner.out)?;
+            emit_pointed_pair(code, program, frame, *count, *type_id, key, value, h)?;
+            emit_stmts(code, program, frame, func, body, h + 2, inner)?;
+            emit_turn(code, program, frame, h + 1, plus(begin, 1)?)?;
+        }
+        // The pointer is not worked out, but has its temp.
+        Stmt::PointedIndices(count, key, body) => {
+            emit_indices(code, program, frame, func, body, *count, key, h + 1)?;
+        }
+        Stmt::SliceElements(e, type_id, key, value, body) => {
+            emit_slice_range(code, program, frame, func, body, e, *type_id, key, value, h)?;
+        }
         Stmt::Break => put(code, Instr::Jump { to: goals.out })?,
         Stmt::Continue => put(code, Instr::Jump { to: goals.again })?,
         Stmt::Return(values) => emit_return(code, program, frame, func, values, h)?,
@@ -153,6 +174,42 @@ fn emit_indices(
     emit_key(code, program, frame, key, h + 1, h)?;
     emit_stmts(code, program, frame, func, body, h + 1, inner)?;
     emit_turn(code, program, frame, h, plus(start, 1)?)?;
+    Ok(())
+}
+
+// A `range` over a slice: its header is in temps from h on, and the index above it.
+#[cycle(emit)]
+fn emit_slice_range(
+    code: &mut Vec<Instr>,
+    program: &Program,
+    frame: &Frame,
+    func: &Func,
+    body: &[Stmt],
+    e: &Expr,
+    type_id: TypeId,
+    key: &Left,
+    value: &Left,
+    h: u16,
+) -> Result<(), NoMemory>
+    requires fits { StFitsIn (program_of program.now) (slots_in program.now frame.now) frame.now.sites
+        (result_words (func_in program.now func.now)) (func_in program.now func.now).named h
+        (range (over_slice (ex_of e.now) type_id.0) (left_of key.now) (left_of value.now) (sts_of body.now)) }
+    requires returns { Returns program.now frame.now (func_in program.now func.now) }
+    requires frame { IsLaid program.now frame.now }
+    ensures { OnOk result (code.new.items ≡ code.old.items
+        ++ st_code (program_of program.now) (argument_words (func_in program.now func.now))
+        (func_in program.now func.now).named (slots_in program.now frame.now)
+        (range (over_slice (ex_of e.now) type_id.0) (left_of key.now) (left_of value.now) (sts_of body.now)) h 0 0
+        (length code.old.items)) }
+{
+    let start = here(code)?;
+    let test = behind_value(program, start, e)?;
+    let inner = slice_goals(program, func, test, key, value, body)?;
+    emit_slice_start(code, program, frame, e, h)?;
+    emit_slice_test(code, program, frame, h, inner.out)?;
+    emit_slice_round(code, program, frame, type_id, key, value, h)?;
+    emit_stmts(code, program, frame, func, body, h + 4, inner)?;
+    emit_turn(code, program, frame, h + 3, test)?;
     Ok(())
 }
 

@@ -20,6 +20,7 @@ mod looping;
 mod program;
 mod returning;
 mod shown;
+mod slices;
 mod stmt_lengths;
 
 pub use program::emit;

@@ -7,19 +7,19 @@ ghost use Rattle.typed.specs.View.{ex_of, left_of, program_of, site_numbers, sts
 ghost use Rattle.expression_code.specs.Frame.{func_in, slots_in, IsLaid};
 ghost use Rattle.codegen.specs.Frame.{key_code, turn_code};
 ghost use Rattle.expression_code.specs.Temps.{Fits};
-ghost use Rattle.codegen.specs.Temps.{LeftFits, ReadyFitIn, RenewFits, SitesFit, TestFitsIn};
+ghost use Rattle.codegen.specs.Temps.{LeftFits, MovesFit, ReadyFitIn, SitesFit, TestFitsIn};
 ghost use Rattle.program_code.specs.Code.{ex_code, index_round_size, lefts_above, renew_code, renew_size, size, sts_size, temp, test_code, test_size};
 
 use crate::assigning::{above_left, emit_left, ready_left};
 use crate::births::emit_birth;
 use crate::stmt_lengths::{TURN, key_len, renew_len, stmts_len};
 use base::{NoMemory, SiteId};
-use expression_code::{Frame, Goals, emit_expr, last_len, plus, put, test_len};
-use isa::{Instr, MoveEvent};
+use expression_code::{Frame, Goals, emit_expr, fetch_variable, last_len, plus, put, test_len};
+use isa::Instr;
 use typed::{Expr, Func, Left, Program, Stmt};
 
-/// The test of a `range` over a number, and its jump.
-const TEST: u32 = 2;
+/// The test of a `range` over a number or a slice, and its jump.
+pub const TEST: u32 = 2;
 
 /// Where the condition is false, goes on at a place.
 pub fn emit_test(
@@ -56,23 +56,13 @@ pub fn emit_renewal(
     h: u16,
 ) -> Result<(), NoMemory>
     requires fits { SitesFit (slots_in program.now frame.now) frame.now.sites (site_numbers sites.now) }
-    requires temps { RenewFits (slots_in program.now frame.now) h (site_numbers sites.now) }
+    requires temps { MovesFit (slots_in program.now frame.now) h (site_numbers sites.now) }
     requires frame { IsLaid program.now frame.now }
     ensures { OnOk result (code.new.items ≡ code.old.items
         ++ renew_code (slots_in program.now frame.now) (site_numbers sites.now) h) }
 {
     for site in sites {
-        let (old, moved) = (frame.of_site(program, *site), frame.temp(h));
-        let n = frame.width_of(program, *site);
-        put(
-            code,
-            Instr::Move {
-                event: MoveEvent::Read,
-                a: moved,
-                b: old,
-                n,
-            },
-        )?;
+        put(code, fetch_variable(program, frame, *site, h))?;
         emit_birth(code, program, frame, *site, h)?;
     }
     Ok(())

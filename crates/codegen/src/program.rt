@@ -1,6 +1,8 @@
 //! The code of a program: its tables, function by function.
-ghost use Rattle.std.specs.Prelude.{◌≡◌, ◌+◌, ◌<◌, ◌^◌, ◌++◌, ◌∷◌, [], IfOk, OnOk, length, map, replicate};
+ghost use Rattle.std.specs.Prelude.{◌≡◌, ◌+◌, ◌<◌, ◌^◌, ℕ, ◌++◌, ◌∷◌, [], IfOk, OnOk, length, map, replicate};
 ghost use Rattle.typed.specs.View.{program_of};
+ghost use Rattle.typed_syntax.specs.Types.{width};
+ghost use Rattle.typed_syntax.specs.Syntax.{type_named};
 ghost use Rattle.typed_syntax.specs.Form.{IsInForm};
 ghost use Rattle.frames.specs.Placement.{IsPlaced};
 ghost use Rattle.placement.specs.Told.{placement_of};
@@ -17,7 +19,7 @@ use frame_layout::{FrameLayout, Layouts, all_words};
 use isa::{Code, Instr};
 use placement::Placement;
 use std::alloc::Global;
-use typed::{Func, Program};
+use typed::{Func, INT, Program};
 
 // Tables that are being put together.
 #[derive(Drop)]
@@ -107,7 +109,7 @@ fn add(
     ensures instrs { OnOk result (parts.new.instrs.items ≡ parts.old.instrs.items ++ func_code (program_of program.now)
         (placement_of homes.placement) (func_in program.now func.now) (length parts.old.instrs.items)) }
     ensures owners { OnOk result (parts.new.owners.items ≡ parts.old.owners.items
-        ++ replicate (func_size (program_of program.now) (func_in program.now func.now)) number) }
+        ++ replicate (func_size (program_of program.now) (placement_of homes.placement) (func_in program.now func.now)) number) }
     ensures funcs { OnOk result (parts.new.funcs.items ≡ parts.old.funcs.items ++ entry_of (program_of program.now)
         (placement_of homes.placement) (func_in program.now func.now) (length parts.old.instrs.items) ∷ []) }
     ensures homes { IfOk result (λ same. same ≡ homes) }
@@ -129,6 +131,13 @@ fn add(
     };
     put_entry(&mut parts.funcs, entry)?;
     Ok(frame.into_homes())
+}
+
+// A table of types has none without words: any of its answers says that it is well formed.
+fn tell_solid(program: &Program)
+    ensures { (n : ℕ) → 0 < width (type_named (program_of program.now) n) }
+{
+    let _ = program.types.type_at(INT);
 }
 
 /// The code of a program whose variables live so, and whose frames are laid out so. Memory counts as refused, too, where the code
@@ -153,6 +162,7 @@ pub fn emit(
         owners: Vec::new(alloc),
         funcs: Vec::new(alloc),
     };
+    tell_solid(program);
     let globals = global_addresses(alloc, program)?;
     let mut homes = Homes { placement, globals };
     let mut number: u32 = 0;

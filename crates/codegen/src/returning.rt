@@ -9,15 +9,15 @@ ghost use Rattle.expression_code.specs.Temps.{ExsFitIn};
 ghost use Rattle.codegen.specs.Temps.{ParamFits, ParamsFitIn, SitesFit, ValuesFit, sites_words};
 ghost use Rattle.program_code.specs.Code.{exs_code, leave_code, named_read_code, named_write_code, params_code, result_code, values_code, zeros_code};
 
-use crate::births::born;
+use crate::births::emit_param;
 use base::{NoMemory, SiteId, TypeId};
-use expression_code::{Frame, emit_values, nth_words, put};
+use expression_code::{Frame, born, emit_values, fetch_variable, land_variable, nth_words, put};
 use frame_layout::{all_words, values_words};
-use isa::{Direction, Instr, MoveEvent};
+use isa::{Direction, Instr};
 use typed::{Func, Program, Values};
 
-// A parameter with a site is born and gets `n` incoming words from one on.
-fn emit_param(
+// A parameter, if it has a site, gets `n` incoming words from one on.
+fn emit_taken(
     code: &mut Vec<Instr>,
     program: &Program,
     frame: &Frame,
@@ -30,20 +30,10 @@ fn emit_param(
     ensures { OnOk result (code.new.items ≡ code.old.items
         ++ param_code (slots_in program.now frame.now) (site_in param) n word) }
 {
-    if let Some(site) = param {
-        put(code, born(program, frame, site))?;
-        let a = frame.of_site(program, site);
-        put(
-            code,
-            Instr::Incoming {
-                direction: Direction::ToSlots,
-                a,
-                b: word,
-                n,
-            },
-        )?;
+    match param {
+        Some(site) => emit_param(code, program, frame, site, n, word),
+        None => Ok(()),
     }
-    Ok(())
 }
 
 /// Parameters of these types, those with sites, get the incoming words.
@@ -65,7 +55,7 @@ pub fn emit_params(
     let mut word: u16 = 0;
     for (i, param) in params.iter().enumerate() {
         let n = nth_words(program, types, i) as u16;
-        emit_param(code, program, frame, *param, n, word)?;
+        emit_taken(code, program, frame, *param, n, word)?;
         word += n;
     }
     Ok(())
@@ -105,13 +95,8 @@ fn emit_named_writes(
 {
     let mut next = h;
     for site in sites {
-        let (a, n) = (
-            frame.of_site(program, *site),
-            frame.width_of(program, *site),
-        );
-        let (event, b) = (MoveEvent::Write, frame.temp(next));
-        put(code, Instr::Move { event, a, b, n })?;
-        next += n;
+        put(code, land_variable(program, frame, *site, next))?;
+        next += frame.width_of(program, *site);
     }
     Ok(())
 }
@@ -151,19 +136,8 @@ fn emit_named_reads(
     let temp = frame.temp(0);
     let mut word = first;
     for site in sites {
-        let (slot, n) = (
-            frame.of_site(program, *site),
-            frame.width_of(program, *site),
-        );
-        put(
-            code,
-            Instr::Move {
-                event: MoveEvent::Read,
-                a: temp,
-                b: slot,
-                n,
-            },
-        )?;
+        let n = frame.width_of(program, *site);
+        put(code, fetch_variable(program, frame, *site, 0))?;
         put(
             code,
             Instr::Incoming {

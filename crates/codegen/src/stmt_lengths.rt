@@ -3,7 +3,7 @@ ghost use Rattle.std.specs.Prelude.{◌≡◌, ◌+◌, IfOk, ◌∷◌, [], map
 ghost use Rattle.typed_syntax.specs.Syntax.{all_wide, argument_words};
 ghost use Rattle.typed.specs.View.{ex_of, exs_of_values, left_of, piece_of, place_of, program_of, site_numbers, st_of, sts_of, test_of};
 ghost use Rattle.expression_code.specs.Frame.{func_in};
-ghost use Rattle.program_code.specs.Code.{address_size, exs_size, element_round_size, index_round_size, leave_size, lefts_size, lefts_sized, piece_size, place_size, pieces_size, renew_size, shown_size, size, st_size, sts_size, test_size, values_size};
+ghost use Rattle.program_code.specs.Code.{address_size, exs_size, element_round_size, index_round_size, leave_size, lefts_size, lefts_sized, piece_size, place_size, pieces_size, pointed_round_size, renew_size, shown_size, size, slice_round_size, st_size, sts_size, test_size, values_size};
 
 use base::{NoMemory, SiteId};
 use expression_code::{
@@ -18,7 +18,7 @@ const BUMP: u32 = 4;
 /// The birth of a variable that gets a value.
 const BIRTH: u32 = 2;
 
-/// `range`: what stands before its test, and the test with its jump.
+/// `range`: the index before its test, and the test with its jump.
 const COUNT_HEAD: u32 = 3;
 
 /// The instructions at a round's end: a constant, the sum and a jump.
@@ -28,7 +28,10 @@ pub const TURN: u32 = 3;
 pub const ARRAY_HEAD: u32 = 4;
 
 /// The index and the element of a round: a move, the address of the copy, that of the element, and a load.
-const ELEMENT: u32 = 4;
+pub const ELEMENT: u32 = 4;
+
+/// The same where a pointer or a slice has the address of the array.
+pub const POINTED: u32 = 3;
 
 fn piece_len(program: &Program, p: &Piece) -> Result<u32, NoMemory>
     ensures { IfOk result (λ n. n ≡ piece_size (program_of program.now) (piece_of p.now)) }
@@ -124,7 +127,6 @@ fn assign_len(program: &Program, ls: &[Left], values: &Values) -> Result<u32, No
 }
 
 // The operands of a place, its address, if there is one, and `more` instructions.
-#[tactic(auto, using(expression_code::proofs::Steps::place_total))]
 fn reached_len(program: &Program, place: &Place, more: u32) -> Result<u32, NoMemory>
     ensures { IfOk result (λ n. n ≡ place_size (program_of program.now) (place_of place.now)
         (address_size (place_of place.now) + more)) }
@@ -260,15 +262,16 @@ pub fn key_len(program: &Program, key: &Left) -> Result<u32, NoMemory>
     plus(operands, write)
 }
 
-/// Those of the left sides that get a round's index and element, and the four instructions that put these down.
+/// Those of the left sides that get a round's index and element, and the instructions, as many as given, that put these down.
 #[tactic(auto, using(crate::proofs::Sized::pair_sized))]
-pub fn pair_len(program: &Program, key: &Left, value: &Left) -> Result<u32, NoMemory>
-    ensures { IfOk result (λ n. n ≡ element_round_size (program_of program.now) (left_of key.now) (left_of value.now)) }
+pub fn pair_len(program: &Program, key: &Left, value: &Left, put: u32) -> Result<u32, NoMemory>
+    ensures { IfOk result (λ n. n ≡ lefts_sized (program_of program.now) (left_of key.now ∷ left_of value.now ∷ [])
+        (put + lefts_size (left_of key.now ∷ left_of value.now ∷ []))) }
 {
     let first = key_len(program, key)?;
     let second = key_len(program, value)?;
     let both = plus(first, second)?;
-    plus(both, ELEMENT)
+    plus(both, put)
 }
 
 // A `range` over a number whose body has `body`.
@@ -312,8 +315,51 @@ fn elements_len(
         (4 + element_round_size (program_of program.now) (left_of key.now) (left_of value.now) + body + 3)) }
 {
     let copy = plus(last_len(program, e)?, 1)?;
-    let rounds = array_len(pair_len(program, key, value)?, body)?;
+    let rounds = array_len(pair_len(program, key, value, ELEMENT)?, body)?;
     plus(copy, rounds)
+}
+
+// One over the elements of an array that a pointer leads to.
+fn pointed_len(
+    program: &Program,
+    e: &Expr,
+    key: &Left,
+    value: &Left,
+    body: u32,
+) -> Result<u32, NoMemory>
+    ensures { IfOk result (λ n. n ≡ size (program_of program.now) (ex_of e.now) +
+        (4 + pointed_round_size (program_of program.now) (left_of key.now) (left_of value.now) + body + 3)) }
+{
+    let pointer = expr_len(program, e)?;
+    let rounds = array_len(pair_len(program, key, value, POINTED)?, body)?;
+    plus(pointer, rounds)
+}
+
+/// The left sides of a round over a slice, and what they get: the index alone where there is no second one.
+pub fn slice_round_len(program: &Program, key: &Left, value: &Left) -> Result<u32, NoMemory>
+    ensures { IfOk result (λ n. n ≡ slice_round_size (program_of program.now) (left_of key.now) (left_of value.now)) }
+{
+    match value {
+        Left::Blank => key_len(program, key),
+        Left::New(_) | Left::To(_) => pair_len(program, key, value, POINTED),
+    }
+}
+
+// One over a slice.
+fn slice_len(
+    program: &Program,
+    e: &Expr,
+    key: &Left,
+    value: &Left,
+    body: u32,
+) -> Result<u32, NoMemory>
+    ensures { IfOk result (λ n. n ≡ size (program_of program.now) (ex_of e.now) + 3
+        + slice_round_size (program_of program.now) (left_of key.now) (left_of value.now) + body + 3) }
+{
+    let head = plus(expr_len(program, e)?, COUNT_HEAD)?;
+    let round = plus(head, slice_round_len(program, key, value)?)?;
+    let inside = plus(round, body)?;
+    plus(inside, TURN)
 }
 
 #[cycle(lengths)]
@@ -351,8 +397,18 @@ fn stmt_len(program: &Program, func: &Func, s: &Stmt) -> Result<u32, NoMemory>
             let inside = stmts_len(program, func, body)?;
             elements_len(program, e, key, value, inside)
         }
-        // These have no code yet.
-        Stmt::SliceElements(..) | Stmt::PointedElements(..) | Stmt::PointedIndices(..) => Ok(0),
+        Stmt::PointedElements(_, e, _, _, key, value, body) => {
+            let inside = stmts_len(program, func, body)?;
+            pointed_len(program, e, key, value, inside)
+        }
+        Stmt::PointedIndices(_, key, body) => {
+            let inside = stmts_len(program, func, body)?;
+            indices_len(program, key, inside)
+        }
+        Stmt::SliceElements(e, _, key, value, body) => {
+            let inside = stmts_len(program, func, body)?;
+            slice_len(program, e, key, value, inside)
+        }
         Stmt::Break => Ok(1),
         Stmt::Continue => Ok(1),
         Stmt::Return(values) => return_len(program, func, values),

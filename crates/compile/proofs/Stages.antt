@@ -20,7 +20,7 @@ use Rattle.type_faults.specs.declared.fault.TypeFault.TheVariants as typing
 use Rattle.types_go.specs.Checked.{Types, Reports, OnlyProgram}
 use Rattle.typed_syntax.specs.Syntax.{Func, Program}
 use Rattle.typed.specs.View.{func_of, program_of}
-use Rattle.frames.specs.Placement.{Placement, package_alone}
+use Rattle.frames.specs.Placement.{Placement, coarse}
 use Rattle.frames.specs.Frames.{frame_of}
 use Rattle.typed.specs.declared.program.Func.{Func as FuncData}
 use Rattle.typed.specs.declared.program.Program.{Program as ProgramData}
@@ -34,7 +34,7 @@ use Rattle.compile.specs.declared.fault.CompileFault.TheVariants.{NoMemory}
 
 -- all frames keep the size
 record Fits (p : Program) : Type 0 where
-  all : (f : ℕ) (func : Func) → slice_get p.funcs f ≡ Some func → frame_of p (package_alone p) func ≤ 65535
+  all : (f : ℕ) (func : Func) → slice_get p.funcs f ≡ Some func → frame_of p (coarse p) func ≤ 65535
 
 none_large : (p : Program) (pl : Placement) (gs : List FuncData) → ((f : ℕ) (func : Func) → slice_get (map (func_of p.types) gs) f ≡ Some func → frame_of p pl func ≤ 65535) → first_too_large p pl gs ≡ None
 none_large p pl [] fits = refl
@@ -97,12 +97,12 @@ module _ (text : List ℕ) where
       program_only q only p a = only p (same_types p a.program)
 
       -- the layout: an accepted text's frames fit
-      pub layout_only : (q : ProgramData) (f : LayoutFault) → ((p : Program) → Types tree p → program_of q ≡ p) → IsTooLarge (first_too_large (program_of q) (package_alone (program_of q)) q.funcs.items) f → (p : Program) → Accepted text p → of_layout f ≡ NoMemory
+      pub layout_only : (q : ProgramData) (f : LayoutFault) → ((p : Program) → Types tree p → program_of q ≡ p) → IsTooLarge (first_too_large (program_of q) (coarse (program_of q)) q.funcs.items) f → (p : Program) → Accepted text p → of_layout f ≡ NoMemory
       layout_only q layout.NoMemory only large p a = refl
       layout_only q (layout.FrameTooLarge at words) only large p a =
           let is : program_of q ≡ p = program_only q only p a in
           let fits : Fits (program_of q) = subst Fits (sym is) (record { all = a.fits }) in
-          let none = none_large (program_of q) (package_alone (program_of q)) q.funcs.items fits.all in
+          let none = none_large (program_of q) (coarse (program_of q)) q.funcs.items fits.all in
           absurd (let e = sym none ∙ large in cc)
 
   -- what the checker refuses
@@ -111,7 +111,7 @@ module _ (text : List ℕ) where
   type_refuses tree (typing.Fault f) has least = record { tree = tree; has = has; least = least; fault = λ e. cc e }
 
   -- what the layout refuses
-  pub layout_refuses : (tree : Syntax) (q : ProgramData) (f : LayoutFault) → HasTree text tree → Types tree (program_of q) → StandAtNames q tree → IsTooLarge (first_too_large (program_of q) (package_alone (program_of q)) q.funcs.items) f → Refuses text (of_layout f)
+  pub layout_refuses : (tree : Syntax) (q : ProgramData) (f : LayoutFault) → HasTree text tree → Types tree (program_of q) → StandAtNames q tree → IsTooLarge (first_too_large (program_of q) (coarse (program_of q)) q.funcs.items) f → Refuses text (of_layout f)
   layout_refuses tree q layout.NoMemory has types names large = tt
   layout_refuses tree q (layout.FrameTooLarge at words) has types names large = record { tree = tree; has = has; program = q; types = types; names = names; large = large; fault = λ e. cc e }
 

@@ -12,7 +12,7 @@ use Rattle.type_faults.specs.declared.fault.TypeFault.TheVariants as typing
 use Rattle.types_go.specs.Checked.{Types, Reports, AreAtNames}
 use Rattle.typed_syntax.specs.Syntax.{Func, Program}
 use Rattle.typed.specs.View.{program_of}
-use Rattle.frames.specs.Placement.{package_alone}
+use Rattle.frames.specs.Placement.{coarse}
 use Rattle.frames.specs.Frames.{frame_of}
 use Rattle.typed.specs.declared.program.Func.{Func as FuncData}
 use Rattle.typed.specs.declared.program.Program.{Program as ProgramData}
@@ -33,11 +33,11 @@ pub record HasProgram (text : List ℕ) (p : Program) : Type 0 where
   pub has : HasTree text tree
   pub types : Types tree p
 
--- a text is accepted with this program: its tokens have a tree, the tree has this typed program, and with the variables of the package
--- on the heap alone no frame is too large
+-- a text is accepted with this program: its tokens have a tree, the tree has this typed program, and with the placement
+-- that needs no analysis no frame is too large
 pub record Accepted (text : List ℕ) (p : Program) : Type 0 where
   pub program : HasProgram text p
-  pub fits : (f : ℕ) (func : Func) → slice_get p.funcs f ≡ Some func → frame_of p (package_alone p) func ≤ 65535
+  pub fits : (f : ℕ) (func : Func) → slice_get p.funcs f ≡ Some func → frame_of p (coarse p) func ≤ 65535
 
 -- each function of a program stands where its name stands in the tree
 abbrev pub StandAtNames : ProgramData → Syntax → Type 0
@@ -64,7 +64,7 @@ pub record HasLayoutFault (text : List ℕ) (f : Rattle.frame_layout.specs.decla
   pub program : ProgramData
   pub types : Types tree (program_of program)
   pub names : StandAtNames program tree
-  pub large : IsTooLarge (first_too_large (program_of program) (package_alone (program_of program)) program.funcs.items) f
+  pub large : IsTooLarge (first_too_large (program_of program) (coarse (program_of program)) program.funcs.items) f
   pub fault : f ≢ layout.NoMemory
 
 -- what a text is refused for: the fault of the first stage that refuses it

@@ -10,7 +10,7 @@ use codegen::emit;
 use frame_layout::{Layouts, layout_of};
 use isa::Code;
 use parse_go::parse;
-use placement::package_alone;
+use placement::coarse;
 use scan_go::scan;
 use std::alloc::Global;
 use typed::Program;
@@ -39,7 +39,7 @@ pub fn compile(alloc: Global, text: &[u8]) -> Result<Compiled, CompileFault>
     let tokens = scan(alloc, text)?;
     let tree = parse(alloc, tokens)?;
     let program = check(alloc, &tree)?;
-    let placement = package_alone(alloc, &program)?;
+    let placement = coarse(alloc, &program)?;
     let layouts = layout_of(alloc, &program, &placement)?;
     let code = emit(alloc, &program, placement, &layouts)?;
     Ok(Compiled {

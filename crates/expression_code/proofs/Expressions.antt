@@ -8,7 +8,7 @@ use Rattle.typed.specs.declared.expr.Expr.{Expr}
 use Rattle.typed_syntax.specs.Syntax.{Ex, Program, logical_and, logical_or, more, wide}
 use Rattle.typed.specs.View.{ex_of, exs_of}
 use Rattle.expression_code.specs.Temps.{ExsFitIn}
-use Rattle.program_code.specs.Code.{Slots, binary_code, ex_code, exs_code, size, temp}
+use Rattle.program_code.specs.Code.{Slots, binary_code, compared, ex_code, exs_code, size, temp}
 use Rattle.program_code.proofs.Sizes.{length_code, length_last}
 
 split_values : (es : List Expr) (i : ℕ) (x : Expr) → i < length es → x ≡ get_or es i x → exs_of (drop i es) ≡ more (ex_of x) (exs_of (drop (i + 1) es))
@@ -16,16 +16,23 @@ split_values es i x l is =
     let one : suc i ≡ i + 1 = omega arith in
     ap exs_of (drop-cons es i x l) ∙ ap (λ y. more (ex_of y) (exs_of (drop (suc i) es))) (sym is) ∙ ap (λ j. more (ex_of x) (exs_of (drop j es))) one
 
+-- one code after another, which goes by its own place
+pub next_emitted : (old c1 c2 a : List Instr) (b : ℕ → List Instr) (n : ℕ) → c1 ≡ old ++ a → length a ≡ n → c2 ≡ c1 ++ b (length c1) → c2 ≡ old ++ (a ++ b (length old + n))
+next_emitted old c1 c2 a b n e1 l e2 =
+    let m : length c1 ≡ length old + n = ap length e1 ∙ length-append old a ∙ ap (λ k. length old + k) l in
+    e2 ∙ ap (λ k. c1 ++ b k) m ∙ ap (λ c. c ++ b (length old + n)) e1 ∙ append_assoc old a (b (length old + n))
+
 module _ (p : Program) (s : Slots) where
-  pub binary_emitted : (old c1 c2 c3 : List Instr) (o : BinOp) (a b : Ex) (h n : ℕ) → n ≡ wide p a → c1 ≡ old ++ ex_code p s a h (length old) → c2 ≡ c1 ++ ex_code p s b (h + n) (length c1)
-      → c3 ≡ c2 ++ binary_code o n (temp s h) (temp s (h + n)) ∷ []
-      → c3 ≡ old ++ (ex_code p s a h (length old) ++ (ex_code p s b (h + wide p a) (length old + size p a) ++ binary_code o (wide p a) (temp s h) (temp s (h + wide p a)) ∷ []))
-  binary_emitted old c1 c2 c3 o a b h n e0 e1 e2 e3 =
-      let pb = length old + size p a in let w = wide p a in
+  pub binary_emitted : (old c1 c2 c3 : List Instr) (o : BinOp) (a b : Ex) (h n m : ℕ) → n ≡ wide p a → m ≡ compared p a b → c1 ≡ old ++ ex_code p s a h (length old) → c2 ≡ c1 ++ ex_code p s b (h + n) (length c1)
+      → c3 ≡ c2 ++ binary_code o m (temp s h) (temp s (h + n)) ∷ []
+      → c3 ≡ old ++ (ex_code p s a h (length old) ++ (ex_code p s b (h + wide p a) (length old + size p a) ++ binary_code o (compared p a b) (temp s h) (temp s (h + wide p a)) ∷ []))
+  binary_emitted old c1 c2 c3 o a b h n m e0 ec e1 e2 e3 =
+      let pb = length old + size p a in let w = wide p a in let k = compared p a b in
       let n1 : length c1 ≡ pb = ap length e1 ∙ omega (arith, length-append old (ex_code p s a h (length old)), length_code p s a h (length old)) in
-      let f2 : c2 ≡ c1 ++ ex_code p s b (h + w) pb = e2 ∙ ap (λ place. c1 ++ ex_code p s b (h + n) place) n1 ∙ ap (λ k. c1 ++ ex_code p s b (h + k) pb) e0 in
-      let f3 : c3 ≡ c2 ++ binary_code o w (temp s h) (temp s (h + w)) ∷ [] = e3 ∙ ap (λ k. c2 ++ binary_code o k (temp s h) (temp s (h + k)) ∷ []) e0 in
-      let all : c3 ≡ ((old ++ ex_code p s a h (length old)) ++ ex_code p s b (h + w) pb) ++ binary_code o w (temp s h) (temp s (h + w)) ∷ [] = cc in
+      let f2 : c2 ≡ c1 ++ ex_code p s b (h + w) pb = e2 ∙ ap (λ place. c1 ++ ex_code p s b (h + n) place) n1 ∙ ap (λ i. c1 ++ ex_code p s b (h + i) pb) e0 in
+      let f3 : c3 ≡ c2 ++ binary_code o k (temp s h) (temp s (h + w)) ∷ [] =
+      e3 ∙ ap (λ i. c2 ++ binary_code o m (temp s h) (temp s (h + i)) ∷ []) e0 ∙ ap (λ i. c2 ++ binary_code o i (temp s h) (temp s (h + w)) ∷ []) ec in
+      let all : c3 ≡ ((old ++ ex_code p s a h (length old)) ++ ex_code p s b (h + w) pb) ++ binary_code o k (temp s h) (temp s (h + w)) ∷ [] = cc in
       all ∙ simp append_assoc
 
   pub both_emitted : (old c1 c2 c3 : List Instr) (a b : Ex) (h : ℕ) → c1 ≡ old ++ ex_code p s a h (length old) → c2 ≡ c1 ++ JumpZero (temp s h) (length c1 + 1 + size p b) ∷ []

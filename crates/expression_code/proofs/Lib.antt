@@ -1,8 +1,9 @@
 pub mod InSlots
-pub mod Variables
+pub mod PackageVariables
 pub mod Operators
 pub mod ByWidth
 pub mod Expressions
 pub mod Steps
+pub mod SliceCodes
 pub mod Elements
 pub mod Reached

@@ -1,8 +1,8 @@
 -- The steps of places from one on, and what they lead to.
-use Rattle.std.proofs.Common.{◌≡◌, ◌≢◌, ℕ, suc, ◌+◌, ◌<◌, ◌≤◌, List, [], ◌∷◌, ◌++◌, length, get_or, drop, refl, sym, ap, ◌∙◌, subst, arith, length-append, append_assoc}
+use Rattle.std.proofs.Common.{◌≡◌, ℕ, suc, ◌+◌, ◌<◌, ◌≤◌, List, [], ◌∷◌, ◌++◌, length, get_or, drop, refl, sym, ap, ◌∙◌, subst, arith, length-append, append_assoc}
 use Rattle.std.proofs.Math.Seq.{drop-cons}
 use Rattle.isa.specs.declared.instr.Instr.{Instr}
-use Rattle.isa.specs.declared.instr.Instr.TheVariants.{Address, Const, Index}
+use Rattle.isa.specs.declared.instr.Instr.TheVariants.{Index}
 use Rattle.base.specs.declared.pos.Pos.{Pos}
 use Rattle.typed.specs.declared.expr.Expr.{Expr}
 use Rattle.typed.specs.declared.expr.Place.{Place}
@@ -11,12 +11,12 @@ use Rattle.typed.specs.declared.expr.Step.TheVariants as way
 use Rattle.typed_syntax.specs.Types.{TypeTree, width, part_type, part_offset}
 use Rattle.typed_syntax.specs.Paths.{offset, type_at}
 use Rattle.typed.specs.Positions.{position}
-use Rattle.typed_syntax.specs.Syntax.{Program, global, Steps, here, inner, at_index, path_of}
+use Rattle.typed_syntax.specs.Syntax.{Program, Steps, here, inner, at_index, path_of}
 use Rattle.frames.specs.Frames.{steps_far}
 use Rattle.typed.specs.View.{ex_of, place_of, steps_of}
 use Rattle.expression_code.specs.Parts.{part_number}
 use Rattle.expression_code.specs.Temps.{IndicesFit, StepsFitIn}
-use Rattle.program_code.specs.Code.{Slots, temp, address_code, global_address, global_type, far_offset, index_code, index_count, steps_above, steps_address, steps_address_size, steps_code, steps_size, ex_code, place_size, size}
+use Rattle.program_code.specs.Code.{Slots, temp, index_code, index_count, steps_above, steps_code, steps_size, ex_code, place_size, size}
 use Rattle.program_code.proofs.Sizes.{length_code, place_sum}
 
 -- one, and those after it
@@ -75,14 +75,8 @@ module _ (steps : List Step) (i : ℕ) (x : Step) (l : i < length steps) (is : x
     pub above_inner : (h : ℕ) → steps_above now h ≡ steps_above behind h
     above_inner h = ap (λ y. steps_above y h) inner_split
 
-    pub offset_inner : (t : TypeTree) → far_offset t now ≡ far_offset (part_type t k) behind
-    offset_inner t = ap (far_offset t) inner_split
-
     pub index_inner : (s : Slots) (t : TypeTree) (first at : ℕ) → index_code s t now first at ≡ index_code s (part_type t k) behind first at
     index_inner s t first at = ap (λ y. index_code s t y first at) inner_split
-
-    pub address_inner : (s : Slots) (slot : ℕ) (t : TypeTree) (first at : ℕ) → steps_address s slot t now first at ≡ steps_address s (slot + part_offset t k) (part_type t k) behind first at
-    address_inner s slot t first at = ap (λ y. steps_address s slot t y first at) inner_split
 
     pub size_inner : (p : Program) → steps_size p now 0 ≡ steps_size p behind 0
     size_inner p = ap (λ y. steps_size p y 0) inner_split
@@ -107,9 +101,6 @@ module _ (steps : List Step) (i : ℕ) (x : Step) (l : i < length steps) (is : x
     pub above_index : (h : ℕ) → steps_above now h ≡ steps_above behind (h + 1)
     above_index h = ap (λ y. steps_above y h) index_split
 
-    pub offset_index : (t : TypeTree) → far_offset t now ≡ offset (part_type t 0) (path_of behind)
-    offset_index t = ap (far_offset t) index_split
-
     pub indices_index : (t : TypeTree) → IndicesFit t now → (0 < n) × (n ≤ width t) × (0 < width (part_type t 0)) × IndicesFit (part_type t 0) behind
     indices_index t f = subst (IndicesFit t) index_split f
 
@@ -126,10 +117,6 @@ module _ (steps : List Step) (i : ℕ) (x : Step) (l : i < length steps) (is : x
         e2 ∙ ap (λ k. code ++ Index k k c n w ∷ []) ea ∙ ap (λ k. code ++ Index (temp s at) (temp s at) k n w ∷ []) ec ∙ ap (λ k. code ++ Index (temp s at) (temp s at) (temp s first) n k ∷ []) ew in
         e1 ∙ ap (λ y. code ++ y) (index_index s t first at) ∙ sym (append_assoc code (one ∷ []) rest) ∙ ap (λ l. l ++ rest) (sym f2) ∙ ap (λ (v : TypeTree). more ++ index_code s v behind (first + 1) at) (sym eu)
 
-    pub address_index : (s : Slots) (slot : ℕ) (t : TypeTree) (first at : ℕ) → steps_address s slot t now first at ≡ Address (temp s at) slot ∷ index_code s t now first at
-    address_index s slot t first at =
-        ap (λ y. steps_address s slot t y first at) index_split ∙ ap (λ y. Address (temp s at) slot ∷ index_code s t y first at) (sym index_split)
-
     pub size_index : (p : Program) → steps_size p now 0 ≡ size p (ex_of e) + steps_size p behind 0
     size_index p = ap (λ y. steps_size p y 0) index_split
 
@@ -143,26 +130,6 @@ module _ (steps : List Step) (i : ℕ) (x : Step) (l : i < length steps) (is : x
         let m : length code + size p (ex_of e) ≡ length more = omega (arith, length-append code ce, length_code p s (ex_of e) h (length code), ap length e2) in
         e1 ∙ ap (λ y. code ++ steps_code p s y h (length code)) index_split ∙ sym (append_assoc code ce (steps_code p s behind (h + 1) (length code + size p (ex_of e))))
         ∙ ap (λ place. (code ++ ce) ++ steps_code p s behind (h + 1) place) m ∙ ap (λ c. c ++ steps_code p s behind (h + 1) (length more)) (sym e2)
-
--- the address of a part by indices: that of the whole, and one for each index
-pub address_none : (steps : Steps) → index_count steps ≡ 0 → steps_address_size steps ≡ 0
-address_none here e = refl
-address_none (inner i steps) e = address_none steps e
-address_none (at_index at x n steps) e = absurd (omega (arith, e))
-
-pub address_some : (steps : Steps) → index_count steps ≢ 0 → steps_address_size steps ≡ index_count steps + 1
-address_some here e = absurd (e refl)
-address_some (inner i steps) e = address_some steps e
-address_some (at_index at x n steps) e = omega arith
-
--- the address of a package variable, and then one for each index
-pub global_emitted : (s : Slots) (g : ℕ) (steps these : Steps) (t : TypeTree) (code more : List Instr) (first at a word : ℕ) → a ≡ temp s at → word ≡ global_address s g → t ≡ global_type s g → these ≡ steps → more ≡ code ++ Const a word ∷ []
-    → more ++ index_code s t these first at ≡ code ++ address_code s (global g steps) first at
-global_emitted s g steps these t code more first at a word ea ew et es e =
-    let rest = index_code s t these first at in
-    ap (λ l. l ++ rest) e ∙ append_assoc code (Const a word ∷ []) rest ∙ ap (λ k. code ++ Const k word ∷ rest) ea ∙ ap (λ k. code ++ Const (temp s at) k ∷ rest) ew
-    ∙ ap (λ (u : TypeTree). code ++ Const (temp s at) (global_address s g) ∷ index_code s u these first at) et
-    ∙ ap (λ (y : Steps). code ++ Const (temp s at) (global_address s g) ∷ index_code s (global_type s g) y first at) es
 
 -- operands only go up
 pub above_least : (h : ℕ) (steps : Steps) → h ≤ steps_above steps h

@@ -13,7 +13,10 @@ use Rattle.frame_layout.specs.Layout.{starts}
 use Rattle.program_code.specs.Code.{Slots}
 use Rattle.expression_code.specs.declared.slots.Frame.{Frame}
 
--- the types of the sites, the sites of the package variables, and a function
+-- the types by their numbers, those of the sites, the sites of the package variables, and a function
+abbrev pub types_in : Program → List TypeTree
+types_in p = trees p.types
+
 abbrev pub sites_in : Program → List TypeTree
 sites_in p = site_types (trees p.types) p.sites.items
 
@@ -30,13 +33,14 @@ slots_in p f = record {
   first = f.first;
   count = f.sites;
   placement = placement_of f.homes.placement;
+  types = types_in p;
   sites = sites_in p;
   globals = globals_in p;
 }
 
--- how many words the variables of each site have is told by 16 bits
+-- how many words values of each of some types have is told by 16 bits
 abbrev pub AreSmall : List TypeTree → Type 0
-AreSmall sites = (site : ℕ) → width (get_or sites site ints) ≤ 65535
+AreSmall types = (n : ℕ) → width (get_or types n ints) ≤ 65535
 
 -- the address of each of some variables, by their sites, that stand one after the other from an address on
 abbrev pub addresses : List TypeTree → List ℕ → (at : ℕ) → List ℕ
@@ -55,8 +59,9 @@ words_in p f = words_between (placement_of f.homes.placement) (sites_in p) f.fir
 
 -- what a frame knows beside its slots: where each of its sites starts, and the address of each package variable; the program's types are small
 pub record KnowsPlaces (p : Program) (f : Frame) : Type 0 where
+  pub types : AreSmall (types_in p)
   pub words : AreSmall (sites_in p)
-  pub sites : f.starts.items ≡ starts (placement_of f.homes.placement) (sites_in p) f.first (cells_in f) f.sites
+  pub sites : f.starts.items ≡ starts (placement_of f.homes.placement) (sites_in p) f.first 0 (cells_in f) f.sites
   pub globals : f.homes.globals.items ≡ global_addresses p
 
 -- its slots are numbers of 16 bits, and it knows the places of variables

@@ -1,14 +1,13 @@
--- That the slots of a frame suffice for expressions and places, which are none of those that no program in form has.
-use Rattle.std.specs.Prelude.{◌≡◌, ℕ, ◌+◌, ◌<◌, ◌≤◌, Bool, true, false, length}
+-- That the slots of a frame suffice for expressions and places.
+use Rattle.std.specs.Prelude.{ℕ, ◌+◌, ◌*◌, ◌<◌, ◌≤◌, Bool, true, false, length}
 use Rattle.typed_syntax.specs.Types.{TypeTree, width, part_type, part_offset}
-use Rattle.typed_syntax.specs.Paths.{offset}
-use Rattle.typed_syntax.specs.Syntax.{Ex, Exs, Pl, Steps, here, inner, at_index, Program, constant, read, unary, binary, logical_and, logical_or, call, part_of, literal, Elements, no_elements, element, local, global, none, more, results, read_int, arguments_of, results_of, type_named, path_of, wide, ascend, words_through, gap_behind}
+use Rattle.typed_syntax.specs.Syntax.{Ex, Exs, Pl, Steps, here, inner, at_index, Program, constant, read, unary, binary, logical_and, logical_or, call, part_of, literal, Elements, no_elements, element, nil, address_of, new_variable, literal_variable, slice_literal, make, append, append_slice, copy, slicing, array_slicing, len, cap, Bound, absent, bound, local, global, indirect, slice_element, none, more, results, read_int, arguments_of, results_of, type_named, wide, all_wide, value_widths, ascend, words_through, gap_behind}
 use Rattle.frames.specs.Frames.{far}
-use Rattle.program_code.specs.Code.{Slots, site_type, site_words, part_words, place_above, global_type, global_offset, global_words}
+use Rattle.program_code.specs.Code.{Slots, compared, element_words, site_words, place_above, root_type, steps_of, near_offset, near_words}
 
--- the site is among the n of a frame, and its variables live there
+-- the site is among the n of a frame
 abbrev pub SiteFits : Slots → (n site : ℕ) → Type 0
-SiteFits s n site = (s.first ≤ site) × (site < s.first + n) × (s.placement.on_heap site ≡ false)
+SiteFits s n site = (s.first ≤ site) × (site < s.first + n)
 
 -- the arrays with worked-out indices among the steps from values of a type have elements, no more than they have words
 abbrev pub IndicesFit : TypeTree → Steps → Type 0
@@ -16,19 +15,16 @@ IndicesFit t here = Unit {0}
 IndicesFit t (inner i steps) = IndicesFit (part_type t i) steps
 IndicesFit t (at_index p e m steps) = (0 < m) × (m ≤ width t) × (0 < width (part_type t 0)) × IndicesFit (part_type t 0) steps
 
--- a part of it has words, and these are within its own
-abbrev pub PlaceFits : Slots → (n : ℕ) → Pl → Type 0
-PlaceFits s n (local site steps) =
-    SiteFits s n site × (0 < part_words s site (path_of steps)) × (offset (site_type s site) (path_of steps) + part_words s site (path_of steps) ≤ site_words s site) × IndicesFit (site_type s site) steps
-PlaceFits s n (global g steps) =
-    (g < length s.globals) × (0 < global_words s g steps) × (global_offset s g steps + global_words s g steps ≤ width (global_type s g)) × IndicesFit (global_type s g) steps
-PlaceFits s n q = ⊥
+-- there is what a place begins at
+abbrev pub RootFits : Slots → (n : ℕ) → Pl → Type 0
+RootFits s n (local site steps) = SiteFits s n site
+RootFits s n (global g steps) = g < length s.globals
+RootFits s n (indirect at e m steps) = Unit {0}
+RootFits s n (slice_element at e i m steps) = Unit {0}
 
--- the words of a place
-abbrev pub reached : Slots → Pl → ℕ
-reached s (local site steps) = part_words s site (path_of steps)
-reached s (global g steps) = global_words s g steps
-reached s q = 0
+-- the part of it has words, and these are within its own
+abbrev pub PlaceFits : Slots → (n : ℕ) → Pl → Type 0
+PlaceFits s n q = RootFits s n q × (0 < near_words s q) × (near_offset s q + near_words s q ≤ width (root_type s q)) × IndicesFit (root_type s q) (steps_of q)
 
 -- there is a temp for the address of a place, if it has one
 abbrev pub AddressFits : (temps at : ℕ) → Pl → Type 0
@@ -43,9 +39,9 @@ module _ (p : Program) (s : Slots) (n : ℕ) where
   abbrev mutual
     pub Fits : (h : ℕ) → Ex → Type 0
     Fits h (constant v) = h < s.temps
-    Fits h (read q) = (h + reached s q ≤ s.temps) × PlaceFits s n q × AddressFits s.temps (place_above q h) q × OperandsFit h q
+    Fits h (read q) = (h + near_words s q ≤ s.temps) × PlaceFits s n q × AddressFits s.temps (place_above q h) q × OperandsFit h q
     Fits h (unary op e) = (h < s.temps) × Fits h e
-    Fits h (binary at op a b) = (0 < wide p a) × (h + wide p a + wide p a ≤ s.temps) × Fits h a × Fits (h + wide p a) b
+    Fits h (binary at op a b) = (0 < compared p a b) × (h + wide p a + compared p a b ≤ s.temps) × Fits h a × Fits (h + wide p a) b
     Fits h (logical_and a b) = (h < s.temps) × Fits h a × Fits h b
     Fits h (logical_or a b) = (h < s.temps) × Fits h a × Fits h b
     Fits h (call f es) = CallFits h f × ExsFitIn h es
@@ -55,13 +51,33 @@ module _ (p : Program) (s : Slots) (n : ℕ) where
     Fits h (literal m es) =
         let t = type_named p m in
         (0 < width t) × (h + width t ≤ s.temps) × ElementsFitIn h t (ascend es) es
-    Fits h e = ⊥
+    Fits h (nil m) = (0 < width (type_named p m)) × (h + width (type_named p m) ≤ s.temps)
+    Fits h (address_of q) = (h < s.temps) × PlaceFits s n q × AddressFits s.temps (place_above q h) q × OperandsFit h q
+    Fits h (new_variable site) = h < s.temps
+    Fits h (literal_variable site e) = (0 < site_words s site) × (h + site_words s site < s.temps) × Fits h e
+    -- the header of a slice in temps from h on, and what it is made of above it
+    Fits h (slice_literal site es) = (h + 3 + all_wide p es ≤ s.temps) × ExsFitIn (h + 3) es
+    Fits h (make at site count room) = (h + 3 ≤ s.temps) × (0 < site_words s site) × Fits (h + 1) count × BoundFitsIn (h + 2) room
+    Fits h (append site e es) =
+        (h + 3 + length (value_widths p es) * site_words s site ≤ s.temps) × (0 < site_words s site) × Fits h e × ExsFitIn (h + 3) es
+    Fits h (append_slice site e f) = (h + 6 ≤ s.temps) × (0 < site_words s site) × Fits h e × Fits (h + 3) f
+    Fits h (copy m e f) = (h + 6 ≤ s.temps) × (0 < width (type_named p m)) × Fits h e × Fits (h + 3) f
+    Fits h (slicing at m e low high) = (h + 5 ≤ s.temps) × (0 < width (type_named p m)) × Fits h e × BoundFitsIn (h + 3) low × BoundFitsIn (h + 4) high
+    Fits h (array_slicing at q x low high) =
+        (h + 5 ≤ s.temps) × (0 < element_words s q) × PlaceFits s n q × AddressFits s.temps (place_above q h) q × OperandsFit h q × BoundFitsIn (h + 3) low × BoundFitsIn (h + 4) high
+    Fits h (len e) = (h + 3 ≤ s.temps) × Fits h e
+    Fits h (cap e) = (h + 3 ≤ s.temps) × Fits h e
+
+    pub BoundFitsIn : (h : ℕ) → Bound → Type 0
+    BoundFitsIn h absent = Unit {0}
+    BoundFitsIn h (bound e) = (h < s.temps) × Fits h e
 
     -- the operands of a place, in temps from h on
     pub OperandsFit : (h : ℕ) → Pl → Type 0
     OperandsFit h (local site steps) = StepsFitIn h steps
     OperandsFit h (global g steps) = StepsFitIn h steps
-    OperandsFit h q = ⊥
+    OperandsFit h (indirect at e m steps) = (h < s.temps) × Fits h e × StepsFitIn (h + 1) steps
+    OperandsFit h (slice_element at e i m steps) = (h + 3 < s.temps) × Fits h e × Fits (h + 3) i × StepsFitIn (h + 4) steps
 
     pub StepsFitIn : (h : ℕ) → Steps → Type 0
     StepsFitIn h here = Unit {0}

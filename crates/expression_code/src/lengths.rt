@@ -1,14 +1,14 @@
 //! The numbers of instructions of expressions, which jumps go by.
 ghost use Rattle.std.specs.Prelude.{◌≡◌, ◌+◌, ◌≤◌, IfOk};
 ghost use Rattle.typed_syntax.specs.Syntax.{type_named};
-ghost use Rattle.typed.specs.View.{elements_of, ex_of, exs_of, exs_of_values, place_of, program_of, steps_of as these_steps, test_of};
-ghost use Rattle.program_code.specs.Code.{call_size, elements_size, exs_size, move_size, place_size, size, steps_size, test_size};
+ghost use Rattle.typed.specs.View.{bound_of, elements_of, ex_of, exs_of, exs_of_values, place_of, program_of, steps_of as these_steps, test_of};
+ghost use Rattle.program_code.specs.Code.{address_size, bound_size, call_size, elements_size, exs_size, move_size, place_size, size, steps_size, test_size};
 
 use crate::literals::{ascends, behind_len};
 use crate::reaching::address_len;
 use base::{FuncId, NoMemory, TypeId};
-use frame_layout::{arguments_of, results_of};
-use typed::{Element, Expr, Place, Program, Step, Values};
+use frame_layout::{arguments_of, results_of, row_words};
+use typed::{Bound, Element, Expr, Place, Program, Step, Values};
 
 /// The sum, where it is a number of 32 bits: a code has no more instructions.
 pub fn plus(a: u32, b: u32) -> Result<u32, NoMemory>
@@ -54,12 +54,8 @@ pub fn expr_len(program: &Program, e: &Expr) -> Result<u32, NoMemory>
 {
     match e {
         Expr::Constant(_) => Ok(1),
-        Expr::Read(place) => {
-            let operands = place_len(program, place)?;
-            let address = address_len(place)?;
-            let n = plus(operands, address)?;
-            plus(n, 1)
-        }
+        Expr::Read(place) => reached_len(program, place),
+        Expr::AddressOf(place) => reached_len(program, place),
         Expr::Unary(_, a) => {
             let n = expr_len(program, a)?;
             plus(n, 1)
@@ -97,21 +93,92 @@ pub fn expr_len(program: &Program, e: &Expr) -> Result<u32, NoMemory>
             let n = elements_len(program, *id, ascends(es), es)?;
             plus(1, n)
         }
-        // These have no code yet.
-        Expr::Nil(..)
-        | Expr::AddressOf(..)
-        | Expr::New(..)
-        | Expr::NewLiteral(..)
-        | Expr::SliceLiteral(..)
-        | Expr::Make(..)
-        | Expr::Append(..)
-        | Expr::AppendSlice(..)
-        | Expr::Copy(..)
-        | Expr::Slicing(..)
-        | Expr::ArraySlicing(..)
-        | Expr::Len(..)
-        | Expr::Cap(..) => Ok(0),
+        Expr::Nil(_) | Expr::New(_) => Ok(1),
+        // The literal's variable is born and filled, and its address moved.
+        Expr::NewLiteral(_, e) => {
+            let n = expr_len(program, e)?;
+            plus(n, 3)
+        }
+        // The array is born and filled, if it has words; the length and the capacity come with it.
+        Expr::SliceLiteral(_, es) => {
+            let n = row_len(program, es)?;
+            let filled = move_len(row_words(program, es)?);
+            plus(n, 3 + filled)
+        }
+        Expr::Make(_, _, count, room) => {
+            let n = expr_len(program, count)?;
+            let m = bound_len(program, room)?;
+            let both = plus(n, m)?;
+            plus(both, 1)
+        }
+        Expr::Append(_, e, es) => {
+            let n = expr_len(program, e)?;
+            let m = row_len(program, es)?;
+            let both = plus(n, m)?;
+            plus(both, 1)
+        }
+        Expr::AppendSlice(_, a, b) => {
+            let m = expr_len(program, a)?;
+            let n = expr_len(program, b)?;
+            let both = plus(m, n)?;
+            plus(both, 1)
+        }
+        Expr::Copy(_, a, b) => {
+            let m = expr_len(program, a)?;
+            let n = expr_len(program, b)?;
+            let both = plus(m, n)?;
+            plus(both, 1)
+        }
+        Expr::Slicing(_, _, e, low, high) => {
+            let n = expr_len(program, e)?;
+            let from = bound_len(program, low)?;
+            let to = bound_len(program, high)?;
+            let bounds = plus(from, to)?;
+            let all = plus(n, bounds)?;
+            plus(all, 1)
+        }
+        // The array's length and capacity come after its address.
+        Expr::ArraySlicing(_, place, _, low, high) => {
+            let n = reached_len(program, place)?;
+            let from = bound_len(program, low)?;
+            let to = bound_len(program, high)?;
+            let bounds = plus(from, to)?;
+            let all = plus(n, bounds)?;
+            plus(all, 3)
+        }
+        Expr::Len(e) => {
+            let n = expr_len(program, e)?;
+            plus(n, 1)
+        }
+        Expr::Cap(e) => {
+            let n = expr_len(program, e)?;
+            plus(n, 1)
+        }
     }
+}
+
+/// A bound, or what stands in its place.
+#[cycle(values)]
+#[tactic(auto, using(typed::proofs::Rows::expr_rows))]
+fn bound_len(program: &Program, bound: &Bound) -> Result<u32, NoMemory>
+    ensures { IfOk result (λ n. n ≡ bound_size (program_of program.now) (bound_of bound.now)) }
+{
+    match bound {
+        Bound::Absent => Ok(1),
+        Bound::At(e) => expr_len(program, e),
+    }
+}
+
+/// The operands of a place, its address, and what reads the place or points to it.
+#[cycle(values)]
+#[tactic(auto, using(typed::proofs::Rows::expr_rows, crate::proofs::Steps::place_total))]
+fn reached_len(program: &Program, place: &Place) -> Result<u32, NoMemory>
+    ensures { IfOk result (λ n. n ≡ place_size (program_of program.now) (place_of place.now) (address_size (place_of place.now) + 1)) }
+{
+    let operands = place_len(program, place)?;
+    let address = address_len(place)?;
+    let n = plus(operands, address)?;
+    plus(n, 1)
 }
 
 /// The operands of a place.
@@ -123,7 +190,18 @@ pub fn place_len(program: &Program, place: &Place) -> Result<u32, NoMemory>
     match place {
         Place::Local(_, steps) => steps_len(program, steps),
         Place::Global(_, steps) => steps_len(program, steps),
-        Place::Indirect(..) | Place::SliceElement(..) => Ok(0),
+        Place::Indirect(_, e, _, steps) => {
+            let pointer = expr_len(program, e)?;
+            let indices = steps_len(program, steps)?;
+            plus(pointer, indices)
+        }
+        Place::SliceElement(_, e, i, _, steps) => {
+            let slice = expr_len(program, e)?;
+            let index = expr_len(program, i)?;
+            let indices = steps_len(program, steps)?;
+            let behind = plus(index, indices)?;
+            plus(slice, behind)
+        }
     }
 }
 

@@ -11,16 +11,20 @@
 //! `codegen`, the code of statements, functions and programs, stands on this.
 #![tactic(auto)]
 
+mod access;
 mod jumps;
 mod lengths;
 mod literals;
 mod moving;
 mod parts;
 mod reaching;
+mod slices;
 mod slots;
 mod values;
+mod variables;
 mod widths;
 
+pub use access::Access;
 pub use jumps::{Goals, here, jump, pass_unless, put};
 pub use lengths::{expr_len, last_len, move_len, number, place_len, plus, test_len, values_len};
 pub use moving::{silent, zeros};
@@ -29,4 +33,5 @@ pub use reaching::{
 };
 pub use slots::{Frame, Homes, global_addresses};
 pub use values::{emit_expr, emit_operation, emit_place, emit_values, word};
+pub use variables::{born, fetch_variable, fill_variable, land_variable, local_root};
 pub use widths::{nth_words, value_words};

@@ -1,19 +1,19 @@
-//! Where the parts of variables stand.
-ghost use Rattle.std.specs.Prelude.{◌≡◌, ◌≤◌, get_or, if◌then◌else◌};
-ghost use Rattle.typed_syntax.specs.Types.{ints, width};
+//! The parts that places are: what a place begins at, and the steps from there.
+ghost use Rattle.std.specs.Prelude.{◌≡◌, ◌≤◌, IfOk, if◌then◌else◌};
 ghost use Rattle.typed_syntax.specs.Paths.{offset as offset_at, type_at};
-ghost use Rattle.typed_syntax.specs.Syntax.{local, path_of, site_type as type_of_site, type_named};
-ghost use Rattle.frames.specs.Frames.{steps_far};
-ghost use Rattle.typed.specs.View.{program_of, steps_of as these_steps};
-ghost use Rattle.expression_code.specs.Frame.{globals_in, sites_in, slots_in, IsLaid};
+ghost use Rattle.typed_syntax.specs.Syntax.{path_of, site_type as type_of_site, type_named};
+ghost use Rattle.frames.specs.Frames.{far, steps_far};
+ghost use Rattle.typed.specs.View.{place_of, program_of, steps_of as these_steps};
+ghost use Rattle.expression_code.specs.Frame.{slots_in, IsLaid};
 ghost use Rattle.expression_code.specs.Parts.{part_number as number_of};
 ghost use Rattle.expression_code.specs.Temps.{PlaceFits};
-ghost use Rattle.program_code.specs.Code.{far_offset as offset_behind, part_slot as slot_of_part, part_words as words_of_part, site_type as type_in_slots, steps_above};
+ghost use Rattle.program_code.specs.Code.{element_words as words_of_elements, index_count as count_of, near_offset as offset_near, near_words as words_near, root_type as type_of_root, steps_above, steps_of as steps_in};
 
+use crate::lengths::plus;
 use crate::slots::Frame;
-use base::{SiteId, TypeId};
-use frame_layout::site_of_global;
-use typed::{Program, Step};
+use base::{NoMemory, SiteId, TypeId};
+use frame_layout::{place_words, site_of_global};
+use typed::{Place, Program, Step};
 
 /// The number of the part that a step leads to; an index that is worked out counts as the first.
 pub fn part_number(step: &Step) -> u32
@@ -51,8 +51,21 @@ pub fn above_steps(steps: &[Step], h: u16) -> u16
     above
 }
 
+/// How many of the steps are indices.
+pub fn index_count(steps: &[Step]) -> Result<u32, NoMemory>
+    ensures { IfOk result (λ n. n ≡ count_of (these_steps steps.now)) }
+{
+    let mut count = 0;
+    for step in steps {
+        if let Step::Index(..) = step {
+            count = plus(count, 1)?;
+        }
+    }
+    Ok(count)
+}
+
 /// The type of a site's variables.
-pub fn site_type(program: &Program, site: SiteId) -> TypeId
+fn site_type(program: &Program, site: SiteId) -> TypeId
     ensures { type_named (program_of program.now) result.0 ≡ type_of_site (program_of program.now) site.0 }
 {
     match program.sites.get(site.0 as usize) {
@@ -61,36 +74,46 @@ pub fn site_type(program: &Program, site: SiteId) -> TypeId
     }
 }
 
-/// The type of a package variable.
-pub fn global_type(program: &Program, number: u32) -> TypeId
-    ensures { type_named (program_of program.now) result.0
-        ≡ get_or (sites_in program.now) (get_or (globals_in program.now) number 0) ints }
+/// The type of what a place begins at.
+#[tactic(auto, using(typed::proofs::Rows::expr_rows))]
+pub fn root_type(program: &Program, frame: &Frame, place: &Place) -> TypeId
+    ensures { type_named (program_of program.now) result.0 ≡ type_of_root (slots_in program.now frame.now) (place_of place.now) }
 {
-    site_type(program, site_of_global(program, number))
-}
-
-/// The type of the part that steps lead to from values of a type.
-fn end_type(program: &Program, id: TypeId, steps: &[Step]) -> TypeId
-    ensures { type_named (program_of program.now) result.0
-        ≡ type_at (type_named (program_of program.now) id.0) (path_of (these_steps steps.now)) }
-{
-    let mut part = id;
-    for step in steps {
-        part = program.types.part(part, part_number(step));
+    match place {
+        Place::Local(site, _) => site_type(program, *site),
+        Place::Global(number, _) => site_type(program, site_of_global(program, *number)),
+        Place::Indirect(_, _, id, _) => *id,
+        Place::SliceElement(_, _, _, id, _) => *id,
     }
-    part
 }
 
-/// The words of that part.
-pub fn end_words(program: &Program, id: TypeId, steps: &[Step]) -> u16
-    requires { width (type_at (type_named (program_of program.now) id.0) (path_of (these_steps steps.now))) ≤ 65535 }
-    ensures { result ≡ width (type_at (type_named (program_of program.now) id.0) (path_of (these_steps steps.now))) }
+/// The steps from there.
+#[tactic(auto, using(typed::proofs::Rows::expr_rows))]
+pub fn steps_of(place: &Place) -> &[Step]
+    ensures { these_steps result.now ≡ steps_in (place_of place.now) }
 {
-    program.types.width(end_type(program, id, steps)) as u16
+    match place {
+        Place::Local(_, steps) => steps,
+        Place::Global(_, steps) => steps,
+        Place::Indirect(_, _, _, steps) => steps,
+        Place::SliceElement(_, _, _, _, steps) => steps,
+    }
 }
 
-/// The words before that part, but for those before elements by indices that are worked out.
-pub fn near_offset(program: &Program, id: TypeId, steps: &[Step]) -> u16
+/// Whether a place is reached by an address of its own.
+#[tactic(auto, using(typed::proofs::Rows::expr_rows))]
+pub fn has_address(place: &Place) -> bool
+    ensures { far (place_of place.now) ≡ (if result then 1 else 0) }
+{
+    match place {
+        Place::Local(_, steps) => is_far(steps),
+        Place::Indirect(_, _, _, steps) => is_far(steps),
+        Place::Global(..) | Place::SliceElement(..) => true,
+    }
+}
+
+// The words before the part that steps lead to from values of a type, but for those before elements by indices that are worked out.
+fn offset(program: &Program, id: TypeId, steps: &[Step]) -> u16
     requires { offset_at (type_named (program_of program.now) id.0) (path_of (these_steps steps.now)) ≤ 65535 }
     ensures { result ≡ offset_at (type_named (program_of program.now) id.0) (path_of (these_steps steps.now)) }
 {
@@ -103,45 +126,41 @@ pub fn near_offset(program: &Program, id: TypeId, steps: &[Step]) -> u16
     words
 }
 
-/// Those of them that lie after the first index.
-fn far_offset(program: &Program, id: TypeId, steps: &[Step]) -> u16
-    requires { offset_at (type_named (program_of program.now) id.0) (path_of (these_steps steps.now)) ≤ 65535 }
-    ensures { result ≡ offset_behind (type_named (program_of program.now) id.0) (these_steps steps.now) }
+/// The words before a place from where it begins on, but for those before elements by indices.
+pub fn near_offset(program: &Program, frame: &Frame, place: &Place) -> u16
+    requires place { PlaceFits (slots_in program.now frame.now) frame.now.sites (place_of place.now) }
+    requires frame { IsLaid program.now frame.now }
+    ensures { result ≡ offset_near (slots_in program.now frame.now) (place_of place.now) }
+{
+    offset(program, root_type(program, frame, place), steps_of(place))
+}
+
+/// The words of a place.
+pub fn near_words(program: &Program, frame: &Frame, place: &Place) -> u16
+    requires place { PlaceFits (slots_in program.now frame.now) frame.now.sites (place_of place.now) }
+    requires frame { IsLaid program.now frame.now }
+    ensures { result ≡ words_near (slots_in program.now frame.now) (place_of place.now) }
+{
+    place_words(program, place) as u16
+}
+
+/// The words of an element of the array at a place.
+pub fn element_words(program: &Program, frame: &Frame, place: &Place) -> u16
+    requires frame { IsLaid program.now frame.now }
+    ensures { result ≡ words_of_elements (slots_in program.now frame.now) (place_of place.now) }
+{
+    let id = end_type(program, root_type(program, frame, place), steps_of(place));
+    frame.width_at(program, program.types.part(id, 0))
+}
+
+// The type of the part that steps lead to from values of a type.
+fn end_type(program: &Program, id: TypeId, steps: &[Step]) -> TypeId
+    ensures { type_named (program_of program.now) result.0
+        ≡ type_at (type_named (program_of program.now) id.0) (path_of (these_steps steps.now)) }
 {
     let mut part = id;
-    for (i, step) in steps.iter().enumerate() {
+    for step in steps {
         part = program.types.part(part, part_number(step));
-        if let Step::Index(..) = step {
-            return near_offset(program, part, &steps[i + 1..]);
-        }
     }
-    0
-}
-
-/// The words of a part of a site's variables.
-pub fn part_words(program: &Program, frame: &Frame, site: SiteId, steps: &[Step]) -> u16
-    requires place { PlaceFits (slots_in program.now frame.now) frame.now.sites (local site.0 (these_steps steps.now)) }
-    requires frame { IsLaid program.now frame.now }
-    ensures { result ≡ words_of_part (slots_in program.now frame.now) site.0 (path_of (these_steps steps.now)) }
-{
-    end_words(program, site_type(program, site), steps)
-}
-
-/// The first slot of a part that is reached by no address.
-pub fn part_slot(program: &Program, frame: &Frame, site: SiteId, steps: &[Step]) -> u16
-    requires place { PlaceFits (slots_in program.now frame.now) frame.now.sites (local site.0 (these_steps steps.now)) }
-    requires frame { IsLaid program.now frame.now }
-    ensures { result ≡ slot_of_part (slots_in program.now frame.now) site.0 (path_of (these_steps steps.now)) }
-{
-    let id = site_type(program, site);
-    frame.of_site(program, site) + near_offset(program, id, steps)
-}
-
-/// The words before a part that is reached by an address, from there on.
-pub fn behind_address(program: &Program, frame: &Frame, site: SiteId, steps: &[Step]) -> u16
-    requires place { PlaceFits (slots_in program.now frame.now) frame.now.sites (local site.0 (these_steps steps.now)) }
-    requires frame { IsLaid program.now frame.now }
-    ensures { result ≡ offset_behind (type_in_slots (slots_in program.now frame.now) site.0) (these_steps steps.now) }
-{
-    far_offset(program, site_type(program, site), steps)
+    part
 }

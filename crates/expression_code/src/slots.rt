@@ -1,12 +1,17 @@
 //! The slots of a frame, and the addresses of the package variables.
 ghost use Rattle.std.specs.Prelude.{◌≡◌, ◌+◌, ◌<◌, ◌≤◌, IfOk, length};
+ghost use Rattle.typed_syntax.specs.Types.{width};
+ghost use Rattle.typed_syntax.specs.Syntax.{type_named};
+ghost use Rattle.typed.specs.View.{program_of};
 ghost use Rattle.frames.specs.Frames.{cells_between, words_between};
 ghost use Rattle.placement.specs.Told.{placement_of};
-ghost use Rattle.program_code.specs.Code.{global_address, site_slot, site_words as words_of_site};
+ghost use Rattle.program_code.specs.Code.{global_address, site_access, site_words as words_of_site};
+ghost use Rattle.expression_code.specs.Accesses.{access_of, Spans};
 ghost use Rattle.expression_code.specs.Temps.{SiteFits};
-ghost use Rattle.expression_code.specs.Frame.{AreSmall, IsLaid, global_addresses as addresses_of, globals_in, sites_in, slots_in};
+ghost use Rattle.expression_code.specs.Frame.{AreSmall, IsLaid, global_addresses as addresses_of, globals_in, sites_in, slots_in, types_in};
 
-use base::{NoMemory, SiteId};
+use crate::access::Access;
+use base::{NoMemory, SiteId, TypeId};
 use frame_layout::{FrameLayout, site_starts, site_words};
 use heap_bump::HEAP_LOW;
 use placement::Placement;
@@ -22,7 +27,8 @@ pub struct Homes {
 }
 
 /// A frame from its lowest slot up: the words of the outgoing area, the temps, and the cells and the words of the sites from a
-/// first one on. `starts` are the words before each of these, so that a slot is told without a walk over the sites.
+/// first one on. `starts` tells where each of these starts behind the temps, at its cell or at its words, so that a slot is told
+/// without a walk over the sites.
 #[derive(Drop)]
 pub struct Frame {
     pub outgoing: u16,
@@ -52,7 +58,8 @@ pub fn global_addresses(alloc: Global, program: &Program) -> Result<Vec<u64>, No
 
 // A table of types has none with more words than 16 bits tell: any of its answers says that it is well formed.
 fn tell_words(program: &Program)
-    ensures { AreSmall (sites_in program.now) }
+    ensures types { AreSmall (types_in program.now) }
+    ensures sites { AreSmall (sites_in program.now) }
 {
     let _ = program.types.type_at(INT);
 }
@@ -71,7 +78,7 @@ impl Frame {
             + words_between (placement_of homes.placement) (sites_in program.now) func.now.first_site func.now.sites ≤ 65535 }
         ensures laid { IfOk result (λ f. IsLaid program.now f) }
         ensures slots { IfOk result (λ f. slots_in program.now f
-            ≡ record { outgoing = layout.outgoing; temps = layout.temps; first = func.now.first_site; count = func.now.sites; placement = placement_of homes.placement; sites = sites_in program.now; globals = globals_in program.now }) }
+            ≡ record { outgoing = layout.outgoing; temps = layout.temps; first = func.now.first_site; count = func.now.sites; placement = placement_of homes.placement; types = types_in program.now; sites = sites_in program.now; globals = globals_in program.now }) }
         ensures sites { IfOk result (λ f. f.sites ≡ func.now.sites) }
         ensures homes { IfOk result (λ f. f.homes ≡ homes) }
     {
@@ -103,23 +110,36 @@ impl Frame {
         self.outgoing + h
     }
 
-    /// The first slot of a site, whose variables live in the frame.
-    pub fn of_site(&self, program: &Program, site: SiteId) -> u16
+    /// Where the words of a site's variables are: in their slots, or behind the address in the site's cell.
+    pub fn access_of(&self, program: &Program, site: SiteId) -> Access
         requires site { SiteFits (slots_in program.now self.now) self.now.sites site.0 }
         requires frame { IsLaid program.now self.now }
-        ensures { result ≡ site_slot (slots_in program.now self.now) site.0 }
+        ensures is { access_of result ≡ site_access (slots_in program.now self.now) site.0 }
+        ensures spans { Spans (access_of result) (words_of_site (slots_in program.now self.now) site.0) }
     {
-        let before = self.starts[(site.0 - self.first) as usize];
-        self.outgoing + self.temps + before
+        let start = self.starts[(site.0 - self.first) as usize];
+        let slot = self.outgoing + self.temps + start;
+        if self.homes.placement.is_on_heap(site) {
+            Access::ByAddress(slot)
+        } else {
+            Access::InSlots(slot)
+        }
     }
 
-    /// The words of a site, whose variables live in the frame.
+    /// The words of the variables of a site, wherever they live.
     pub fn width_of(&self, program: &Program, site: SiteId) -> u16
-        requires site { SiteFits (slots_in program.now self.now) self.now.sites site.0 }
         requires frame { IsLaid program.now self.now }
         ensures { result ≡ words_of_site (slots_in program.now self.now) site.0 }
     {
         site_words(program, site) as u16
+    }
+
+    /// The words of values of a type.
+    pub fn width_at(&self, program: &Program, id: TypeId) -> u16
+        requires frame { IsLaid program.now self.now }
+        ensures { result ≡ width (type_named (program_of program.now) id.0) }
+    {
+        program.types.width(id) as u16
     }
 
     /// The address of a package variable.

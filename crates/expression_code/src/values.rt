@@ -1,23 +1,28 @@
 //! The code of expressions and calls.
-ghost use Rattle.std.specs.Prelude.{◌≡◌, ◌+◌, ◌≤◌, ◌++◌, ◌∷◌, [], length, OnOk, true, false};
+ghost use Rattle.std.specs.Prelude.{◌≡◌, ◌+◌, ◌≤◌, ◌++◌, ◌∷◌, [], ◌||◌, length, OnOk, true, false, if◌then◌else◌};
 ghost use Rattle.isa.specs.declared.instr.Instr.{Instr};
 ghost use Rattle.typed_syntax.specs.Types.{width};
 ghost use Rattle.typed_syntax.specs.Syntax.{type_named};
-ghost use Rattle.typed.specs.View.{elements_of, ex_of, exs_of, exs_of_values, place_of, program_of, steps_of as these_steps, value_of};
+ghost use Rattle.typed.specs.View.{bound_of, elements_of, ex_of, exs_of, exs_of_values, place_of, program_of, steps_of as these_steps, value_of};
 ghost use Rattle.expression_code.specs.Frame.{slots_in, IsLaid};
-ghost use Rattle.expression_code.specs.Temps.{CallFits, ElementsFitIn, Fits, ExsFitIn, OperandsFit, StepsFitIn};
-ghost use Rattle.program_code.specs.Code.{binary_code as code_of_binary, call_code, elements_code, ex_code, exs_code, place_code, steps_code, operation as operation_of, size, temp, unary_code, word_of};
+ghost use Rattle.expression_code.specs.Temps.{BoundFitsIn, CallFits, ElementsFitIn, Fits, ExsFitIn, OperandsFit, StepsFitIn};
+ghost use Rattle.program_code.specs.Code.{binary_code as code_of_binary, bound_code, call_code, elements_code, ex_code, exs_code, is_nil as operand_nil, new_code, place_code, steps_code, operation as operation_of, site_words, size, steps_of as steps_in, temp, unary_code, word_of};
 
+use crate::access::stored;
 use crate::jumps::{jump, jump_if_zero, put};
 use crate::lengths::expr_len;
 use crate::literals::{ascends, emit_gap, moved, taken};
 use crate::moving::{emit_move, silent, zeros};
-use crate::reaching::{above_operands, emit_read};
+use crate::parts::element_words;
+use crate::reaching::{above_operands, emit_pointing, emit_read};
+use crate::slices::{
+    appended, copied, emit_cut, emit_room, emit_sliced, emit_whole, header_word, joined, made_array,
+};
 use crate::slots::Frame;
-use base::{FuncId, NoMemory, TypeId};
-use frame_layout::{arguments_of, expr_words, results_of};
+use base::{FuncId, NoMemory, SiteId, TypeId};
+use frame_layout::{arguments_of, expr_words, results_of, row_words};
 use isa::{Instr, Sameness};
-use typed::{BinOp, Const, Element, Expr, Place, Program, Step, UnOp, Values};
+use typed::{BinOp, Bound, Const, Element, Expr, Place, Program, Step, UnOp, Values};
 
 /// The instruction's operation.
 pub fn operation(op: BinOp) -> isa::BinOp
@@ -175,7 +180,22 @@ fn binary(op: BinOp, n: u16, a: u16, c: u16) -> Instr
     }
 }
 
-// An operator on operands of n words, in temps from h and from h + n on, to temp h.
+// Whether an operand is `nil`.
+#[tactic(auto, using(typed::proofs::Rows::expr_rows))]
+fn is_nil(e: &Expr) -> bool
+    ensures { result ≡ operand_nil (ex_of e.now) }
+{
+    if let Expr::Nil(_) = e { true } else { false }
+}
+
+// How many words of two operands, of n words each, are compared.
+fn compared(a: &Expr, b: &Expr, n: u16) -> u16
+    ensures { result ≡ (if operand_nil (ex_of a.now) || operand_nil (ex_of b.now) then 1 else n) }
+{
+    if is_nil(a) || is_nil(b) { 1 } else { n }
+}
+
+// An operator on operands of which n words are compared, in temps from h and from g on, to temp h.
 fn emit_binary(
     code: &mut Vec<Instr>,
     program: &Program,
@@ -183,13 +203,14 @@ fn emit_binary(
     op: BinOp,
     n: u16,
     h: u16,
+    g: u16,
 ) -> Result<(), NoMemory>
-    requires temp { h + n ≤ frame.now.temps }
+    requires temps { (h ≤ frame.now.temps) × (g ≤ frame.now.temps) }
     requires frame { IsLaid program.now frame.now }
     ensures { OnOk result (code.new.items ≡ code.old.items
-        ++ code_of_binary op n (temp (slots_in program.now frame.now) h) (temp (slots_in program.now frame.now) (h + n)) ∷ []) }
+        ++ code_of_binary op n (temp (slots_in program.now frame.now) h) (temp (slots_in program.now frame.now) g) ∷ []) }
 {
-    let (a, c) = (frame.temp(h), frame.temp(h + n));
+    let (a, c) = (frame.temp(h), frame.temp(g));
     put(code, binary(op, n, a, c))?;
     Ok(())
 }
@@ -209,7 +230,38 @@ pub fn emit_operation(
         ++ Instr.Bin (operation_of op) (temp (slots_in program.now frame.now) h) (temp (slots_in program.now frame.now) h)
         (temp (slots_in program.now frame.now) (h + 1)) ∷ []) }
 {
-    emit_binary(code, program, frame, op, 1, h)
+    emit_binary(code, program, frame, op, 1, h, h + 1)
+}
+
+// A variable of a site, which has no name, is born on the heap, and its address goes to temp `at`.
+fn made(program: &Program, frame: &Frame, site: SiteId, at: u16) -> Instr
+    requires temp { at ≤ frame.now.temps }
+    requires frame { IsLaid program.now frame.now }
+    ensures { result ≡ Instr.Alloc (temp (slots_in program.now frame.now) at) (site_words (slots_in program.now frame.now) site.0) site.0 }
+{
+    let (a, n) = (frame.temp(at), frame.width_of(program, site));
+    Instr::Alloc { a, n, site: site.0 }
+}
+
+// Such a variable gets the words of temps from h on, and its address goes there, by the temp above them.
+fn emit_new(
+    code: &mut Vec<Instr>,
+    program: &Program,
+    frame: &Frame,
+    site: SiteId,
+    h: u16,
+) -> Result<(), NoMemory>
+    requires temp { h + site_words (slots_in program.now frame.now) site.0 ≤ frame.now.temps }
+    requires frame { IsLaid program.now frame.now }
+    ensures { OnOk result (code.new.items ≡ code.old.items
+        ++ new_code (slots_in program.now frame.now) site.0 (h + site_words (slots_in program.now frame.now) site.0) h) }
+{
+    let n = frame.width_of(program, site);
+    let (address, first) = (frame.temp(h + n), frame.temp(h));
+    put(code, made(program, frame, site, h + n))?;
+    put(code, stored(n, address, first))?;
+    put(code, silent(1, first, address))?;
+    Ok(())
 }
 
 /// The value lands in temps from h on.
@@ -244,10 +296,10 @@ pub fn emit_expr(
         Expr::Binary(_, op, a, b) => {
             let a: &Expr = a;
             let b: &Expr = b;
-            let n = expr_words(program, a)? as u16;
+            let wide = expr_words(program, a)? as u16;
             emit_expr(code, program, frame, a, h)?;
-            emit_expr(code, program, frame, b, h + n)?;
-            emit_binary(code, program, frame, *op, n, h)?;
+            emit_expr(code, program, frame, b, h + wide)?;
+            emit_binary(code, program, frame, *op, compared(a, b, wide), h, h + wide)?;
         }
         Expr::LogicalAnd(a, b) => {
             let a: &Expr = a;
@@ -281,20 +333,105 @@ pub fn emit_expr(
                 emit_moved(code, program, frame, *id, es, h)?;
             }
         }
-        // These have no code yet.
-        Expr::Nil(..)
-        | Expr::AddressOf(..)
-        | Expr::New(..)
-        | Expr::NewLiteral(..)
-        | Expr::SliceLiteral(..)
-        | Expr::Make(..)
-        | Expr::Append(..)
-        | Expr::AppendSlice(..)
-        | Expr::Copy(..)
-        | Expr::Slicing(..)
-        | Expr::ArraySlicing(..)
-        | Expr::Len(..)
-        | Expr::Cap(..) => {}
+        Expr::Nil(id) => {
+            put(code, zeros(program.types.width(*id) as u16, frame.temp(h)))?;
+        }
+        Expr::AddressOf(place) => {
+            emit_place(code, program, frame, place, h)?;
+            emit_pointing(code, program, frame, place, above_operands(place, h), h)?;
+        }
+        Expr::New(site) => {
+            put(code, made(program, frame, *site, h))?;
+        }
+        Expr::NewLiteral(site, e) => {
+            let e: &Expr = e;
+            emit_expr(code, program, frame, e, h)?;
+            emit_new(code, program, frame, *site, h)?;
+        }
+        Expr::SliceLiteral(site, es) => {
+            let words = row_words(program, es)? as u16;
+            emit_row(code, program, frame, es, h + 3)?;
+            emit_sliced(code, program, frame, *site, es.len() as u64, words, h)?;
+        }
+        Expr::Make(_, site, count, room) => {
+            let count: &Expr = count;
+            emit_expr(code, program, frame, count, h + 1)?;
+            emit_bound(code, program, frame, room, h + 2)?;
+            emit_room(code, program, frame, room, h)?;
+            put(code, made_array(program, frame, *site, h))?;
+        }
+        Expr::Append(site, e, es) => {
+            let e: &Expr = e;
+            emit_expr(code, program, frame, e, h)?;
+            emit_row(code, program, frame, es, h + 3)?;
+            put(code, appended(program, frame, *site, es.len() as u16, h))?;
+        }
+        Expr::AppendSlice(site, a, b) => {
+            let a: &Expr = a;
+            let b: &Expr = b;
+            emit_expr(code, program, frame, a, h)?;
+            emit_expr(code, program, frame, b, h + 3)?;
+            put(code, joined(program, frame, *site, h))?;
+        }
+        Expr::Copy(id, a, b) => {
+            let a: &Expr = a;
+            let b: &Expr = b;
+            emit_expr(code, program, frame, a, h)?;
+            emit_expr(code, program, frame, b, h + 3)?;
+            put(code, copied(program, frame, *id, h))?;
+        }
+        Expr::Slicing(_, id, e, low, high) => {
+            let e: &Expr = e;
+            emit_expr(code, program, frame, e, h)?;
+            emit_bound(code, program, frame, low, h + 3)?;
+            emit_bound(code, program, frame, high, h + 4)?;
+            let w = frame.width_at(program, *id);
+            emit_cut(code, program, frame, low, high, w, h)?;
+        }
+        Expr::ArraySlicing(_, place, count, low, high) => {
+            emit_place(code, program, frame, place, h)?;
+            emit_pointing(code, program, frame, place, above_operands(place, h), h)?;
+            emit_bound(code, program, frame, low, h + 3)?;
+            emit_bound(code, program, frame, high, h + 4)?;
+            emit_whole(code, program, frame, *count, h)?;
+            let w = element_words(program, frame, place);
+            emit_cut(code, program, frame, low, high, w, h)?;
+        }
+        Expr::Len(e) => {
+            let e: &Expr = e;
+            emit_expr(code, program, frame, e, h)?;
+            put(code, header_word(program, frame, 1, h))?;
+        }
+        Expr::Cap(e) => {
+            let e: &Expr = e;
+            emit_expr(code, program, frame, e, h)?;
+            put(code, header_word(program, frame, 2, h))?;
+        }
+    }
+    Ok(())
+}
+
+// A bound lands in temp h, if it is there.
+#[cycle(values)]
+#[tactic(auto, using(typed::proofs::Rows::expr_rows))]
+fn emit_bound(
+    code: &mut Vec<Instr>,
+    program: &Program,
+    frame: &Frame,
+    bound: &Bound,
+    h: u16,
+) -> Result<(), NoMemory>
+    requires fits { BoundFitsIn (program_of program.now) (slots_in program.now frame.now) frame.now.sites h (bound_of bound.now) }
+    requires frame { IsLaid program.now frame.now }
+    ensures { OnOk result (code.new.items ≡ code.old.items
+        ++ bound_code (program_of program.now) (slots_in program.now frame.now) (bound_of bound.now) h (length code.old.items)) }
+{
+    match bound {
+        Bound::Absent => {}
+        Bound::At(e) => {
+            let e: &Expr = e;
+            emit_expr(code, program, frame, e, h)?;
+        }
     }
     Ok(())
 }
@@ -315,9 +452,47 @@ pub fn emit_place(
         ++ place_code (program_of program.now) (slots_in program.now frame.now) (place_of place.now) h (length code.old.items)) }
 {
     match place {
+        Place::Local(..) | Place::Global(..) => {
+            emit_place_steps(code, program, frame, place, h)?;
+        }
+        Place::Indirect(_, e, _, _) => {
+            let e: &Expr = e;
+            emit_expr(code, program, frame, e, h)?;
+            emit_place_steps(code, program, frame, place, h + 1)?;
+        }
+        Place::SliceElement(_, e, i, _, _) => {
+            let e: &Expr = e;
+            let i: &Expr = i;
+            emit_expr(code, program, frame, e, h)?;
+            emit_expr(code, program, frame, i, h + 3)?;
+            emit_place_steps(code, program, frame, place, h + 4)?;
+        }
+    }
+    Ok(())
+}
+
+// The indices of a place land in temps from h on.
+#[cycle(values)]
+#[tactic(auto, using(typed::proofs::Rows::expr_rows))]
+fn emit_place_steps(
+    code: &mut Vec<Instr>,
+    program: &Program,
+    frame: &Frame,
+    place: &Place,
+    h: u16,
+) -> Result<(), NoMemory>
+    requires fits { StepsFitIn (program_of program.now) (slots_in program.now frame.now) frame.now.sites h
+        (steps_in (place_of place.now)) }
+    requires frame { IsLaid program.now frame.now }
+    ensures { OnOk result (code.new.items ≡ code.old.items
+        ++ steps_code (program_of program.now) (slots_in program.now frame.now) (steps_in (place_of place.now)) h
+        (length code.old.items)) }
+{
+    match place {
         Place::Local(_, steps) => emit_steps(code, program, frame, steps, h)?,
         Place::Global(_, steps) => emit_steps(code, program, frame, steps, h)?,
-        Place::Indirect(..) | Place::SliceElement(..) => {}
+        Place::Indirect(_, _, _, steps) => emit_steps(code, program, frame, steps, h)?,
+        Place::SliceElement(_, _, _, _, steps) => emit_steps(code, program, frame, steps, h)?,
     }
     Ok(())
 }

@@ -4,7 +4,7 @@ use Rattle.typed_syntax.specs.Types.{TypeTree, ints}
 use Rattle.typed_syntax.specs.Paths.{type_at}
 use Rattle.frames.specs.Placement.{Placement}
 use Rattle.frames.specs.Frames.{cell_words, cells_between, stack_words, words_between}
-use Rattle.frame_layout.specs.Layout.{starts}
+use Rattle.frame_layout.specs.Layout.{start_at, starts}
 
 -- whole numbers have no parts, and what is not there counts as one
 pub ints_alone : (path : List ℕ) → type_at ints path ≡ ints
@@ -39,15 +39,19 @@ cells_more l first i count lt =
     ∙ ap (λ k. cell_words l (first + i) + cells_between l (first + (i + 1)) k) n
 
 -- the same for where they start
-starts_next : (l : Placement) (sites : List TypeTree) (from before count : ℕ) → 0 < count → starts l sites from before count ≡ before ∷ starts l sites (from + 1) (before + stack_words l sites from) (count - 1)
-starts_next l sites from before zero lt = absurd (omega (arith, lt))
-starts_next l sites from before (suc count) lt =
-    let n : count ≡ suc count - 1 = omega arith in let m : suc from ≡ from + 1 = omega arith in let after = before + stack_words l sites from in
-    ap (λ k. before ∷ starts l sites k after count) m ∙ ap (λ k. before ∷ starts l sites (from + 1) after k) n
+starts_next : (l : Placement) (sites : List TypeTree) (from cell word count : ℕ) → 0 < count
+    → starts l sites from cell word count ≡ start_at l from cell word ∷ starts l sites (from + 1) (cell + cell_words l from) (word + stack_words l sites from) (count - 1)
+starts_next l sites from cell word zero lt = absurd (omega (arith, lt))
+starts_next l sites from cell word (suc count) lt =
+    let n : count ≡ suc count - 1 = omega arith in let m : suc from ≡ from + 1 = omega arith in
+    let now = start_at l from cell word in let next = cell + cell_words l from in let after = word + stack_words l sites from in
+    ap (λ k. now ∷ starts l sites k next after count) m ∙ ap (λ k. now ∷ starts l sites (from + 1) next after k) n
 
-pub starts_more : (l : Placement) (sites : List TypeTree) (first i before count : ℕ) → i < count
-    → starts l sites (first + i) before (count - i) ≡ before ∷ starts l sites (first + (i + 1)) (before + stack_words l sites (first + i)) (count - (i + 1))
-starts_more l sites first i before count lt =
-    let n : count - i - 1 ≡ count - (i + 1) = omega arith in let m : first + i + 1 ≡ first + (i + 1) = omega arith in let after = before + stack_words l sites (first + i) in
-    starts_next l sites (first + i) before (count - i) (omega arith) ∙ ap (λ k. before ∷ starts l sites k after (count - i - 1)) m
-    ∙ ap (λ k. before ∷ starts l sites (first + (i + 1)) after k) n
+pub starts_more : (l : Placement) (sites : List TypeTree) (first i cell word count : ℕ) → i < count
+    → starts l sites (first + i) cell word (count - i)
+    ≡ start_at l (first + i) cell word ∷ starts l sites (first + (i + 1)) (cell + cell_words l (first + i)) (word + stack_words l sites (first + i)) (count - (i + 1))
+starts_more l sites first i cell word count lt =
+    let n : count - i - 1 ≡ count - (i + 1) = omega arith in let m : first + i + 1 ≡ first + (i + 1) = omega arith in
+    let now = start_at l (first + i) cell word in let next = cell + cell_words l (first + i) in let after = word + stack_words l sites (first + i) in
+    starts_next l sites (first + i) cell word (count - i) (omega arith) ∙ ap (λ k. now ∷ starts l sites k next after (count - i - 1)) m
+    ∙ ap (λ k. now ∷ starts l sites (first + (i + 1)) next after k) n

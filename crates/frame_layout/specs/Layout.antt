@@ -6,7 +6,7 @@ use Rattle.typed_syntax.specs.Types.{TypeTree, ints}
 use Rattle.typed_syntax.specs.Syntax.{Func, Program, type_named}
 use Rattle.typed.specs.View.{func_of}
 use Rattle.frames.specs.Placement.{Placement}
-use Rattle.frames.specs.Frames.{outgoing_of, temps_of, frame_of, stack_words}
+use Rattle.frames.specs.Frames.{outgoing_of, temps_of, frame_of, cell_words, stack_words}
 use Rattle.typed.specs.declared.program.Func.{Func as FuncData}
 use Rattle.frame_layout.specs.declared.layout.FrameLayout.{FrameLayout}
 use Rattle.frame_layout.specs.declared.fault.LayoutFault.{LayoutFault}
@@ -17,11 +17,14 @@ abbrev pub type_or_ints : Program → Option TypeId → TypeTree
 type_or_ints p None = ints
 type_or_ints p (Some id) = type_named p id.0
 
--- The words before each of `count` sites from one on, where `before` words stand before the first. A site on the heap has none itself,
--- and nobody asks where they begin.
-abbrev pub starts : Placement → List TypeTree → (from before count : ℕ) → List ℕ
-starts l sites from before zero = []
-starts l sites from before (suc n) = before ∷ starts l sites (suc from) (before + stack_words l sites from) n
+-- Where each of `count` sites from one on starts: its cell, if its variables live on the heap, and else its words. The first cell is this
+-- one, and the words begin so far on.
+abbrev pub start_at : Placement → (site cell word : ℕ) → ℕ
+start_at l site cell word = if l.on_heap site then cell else word
+
+abbrev pub starts : Placement → List TypeTree → (from cell word count : ℕ) → List ℕ
+starts l sites from cell word zero = []
+starts l sites from cell word (suc n) = start_at l from cell word ∷ starts l sites (suc from) (cell + cell_words l from) (word + stack_words l sites from) n
 
 abbrev pub layout_in : Program → Placement → Func → FrameLayout
 layout_in p l f = record { outgoing = outgoing_of p f; temps = temps_of p l f; frame = frame_of p l f }

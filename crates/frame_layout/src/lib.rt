@@ -18,6 +18,6 @@ mod words;
 pub use fault::LayoutFault;
 pub use layout::{FrameLayout, Layouts, layout_of};
 pub use words::{
-    all_words, arguments_of, element_words, expr_words, results_of, site_of_global, site_starts,
-    site_words, type_words, values_words,
+    all_words, arguments_of, element_words, expr_words, place_words, results_of, row_words,
+    site_of_global, site_starts, site_words, type_words, values_words,
 };

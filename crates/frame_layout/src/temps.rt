@@ -719,11 +719,12 @@ fn entry_temps(
     most
 }
 
-/// The temps of a function: the most that its entry or one of its statements wants.
+/// The temps of a function: the most that its entry, its results with names or one of its statements want.
 pub fn func_temps(program: &Program, placement: &Placement, func: &Func) -> Result<u64, NoMemory>
     ensures { IfOk result (λ n. n ≡ temps_of (program_of program.now) (placement_of placement.now) (func_of (trees program.now.types) func.now)) }
 {
     let entry = entry_temps(program, placement, &func.params, &func.param_types);
+    let named = widest(program, &func.named);
     let body = body_temps(program, &func.named, &func.body)?;
-    Ok(entry.max(body))
+    Ok(entry.max(named.max(body)))
 }

@@ -8,7 +8,7 @@ ghost use Rattle.typed_syntax.specs.Syntax.{all_width, all_wide, arguments_of as
 ghost use Rattle.typed.specs.View.{ex_of, exs_of, exs_of_values, place_of, program_of, site_numbers, steps_of};
 ghost use Rattle.typed.specs.Trees.{trees};
 ghost use Rattle.placement.specs.Told.{placement_of};
-ghost use Rattle.frame_layout.specs.Layout.{type_or_ints, starts as starts_of};
+ghost use Rattle.frame_layout.specs.Layout.{type_or_ints, start_at, starts as starts_of};
 
 use base::{FuncId, NoMemory, SiteId, TypeId};
 use placement::Placement;
@@ -187,7 +187,7 @@ pub fn expr_words(program: &Program, e: &Expr) -> Result<u64, NoMemory>
 }
 
 /// The words of the values of some expressions side by side.
-fn row_words(program: &Program, es: &[Expr]) -> Result<u64, NoMemory>
+pub fn row_words(program: &Program, es: &[Expr]) -> Result<u64, NoMemory>
     ensures { IfOk result (λ n. n ≡ all_wide (program_of program.now) (exs_of es.now)) }
 {
     let mut words: u64 = 0;
@@ -252,7 +252,14 @@ pub fn cells_of(placement: &Placement, first: u32, count: u32) -> u64
     cells
 }
 
-/// The words before each of `count` sites from `first` on; before the first stand the cells.
+/// Where a site starts, by its number: at its cell, if its variables live on the heap, and else at its words.
+fn start(placement: &Placement, number: usize, cell: u16, word: u16) -> u16
+    ensures { result ≡ start_at (placement_of placement.now) number cell word }
+{
+    if placement.at(number) { cell } else { word }
+}
+
+/// Where each of `count` sites from `first` on starts, counted from the first cell; the words stand behind the cells.
 pub fn site_starts(
     alloc: Global,
     program: &Program,
@@ -263,13 +270,16 @@ pub fn site_starts(
     requires { cells_between (placement_of placement.now) first count
         + words_between (placement_of placement.now) (program_of program.now).sites first count ≤ 65535 }
     ensures { IfOk result (λ starts. starts.items ≡ starts_of (placement_of placement.now)
-        (program_of program.now).sites first (cells_between (placement_of placement.now) first count) count) }
+        (program_of program.now).sites first 0 (cells_between (placement_of placement.now) first count) count) }
 {
     let mut starts = Vec::new(alloc);
-    let mut words = cells_of(placement, first, count) as u16;
+    let mut cell = 0;
+    let mut word = cells_of(placement, first, count) as u16;
     for i in 0..count {
-        starts.push(words)?;
-        words += stack_words(program, placement, first as usize + i as usize) as u16;
+        let number = first as usize + i as usize;
+        starts.push(start(placement, number, cell, word))?;
+        cell += cells_at(placement, number) as u16;
+        word += stack_words(program, placement, number) as u16;
     }
     Ok(starts)
 }

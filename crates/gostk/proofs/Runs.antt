@@ -4,7 +4,7 @@ use Rattle.limits.specs.Limits.{Bounds}
 use Rattle.outside.specs.Causes.{Rose}
 use Rattle.outside.specs.Took.{Took, TookPrefix}
 use Rattle.typed_syntax.specs.Syntax.{Program}
-use Rattle.frames.specs.Placement.{package_alone}
+use Rattle.frames.specs.Placement.{coarse}
 use Rattle.meaning.specs.Trace.{Ending}
 use Rattle.meaning.specs.Meaning.{Item}
 use Rattle.meaning.specs.Output.{source, ending_in}
@@ -39,7 +39,7 @@ pub record Told (p : Program) (b : Bounds) (result : Result ℕ RunFault) (untou
 -- what is said of a run of code with these limits
 abbrev pub Says : Program → (max heap_max steps : ℕ) → Result ℕ RunFault → Streams → Streams → (ℕ → Item) → ℕ → Type 0
 Says p max heap_max steps result old new items answered =
-    RanCode p.strings (source items p (limits p (package_alone p) max heap_max) (steps / 16)) (source items p (limits p (package_alone p) max heap_max) steps) result answered old.taken new.taken old.faults new.faults
+    RanCode p.strings (source items p (limits p (coarse p) max heap_max) (steps / 16)) (source items p (limits p (coarse p) max heap_max) steps) result answered old.taken new.taken old.faults new.faults
 
 pub told : (p : Program) (b : Bounds) (max heap_max steps : ℕ) (result : Result ℕ RunFault) (untouched : Type 0) (old new : Streams) → max ≡ b.stack_max → heap_max ≡ b.heap_max → steps ≡ b.steps
     → ReadBy result old.left untouched (Says p max heap_max steps result old new) → Told p b result untouched old new
@@ -49,9 +49,9 @@ told p b max heap_max steps result untouched old new m l n h = record {
   unread = h.unread;
   does = λ r starts.
       let did = h.does r starts.numbers starts.has in
-      subst (λ (k : ℕ). RanCode p.strings (source r p (limits p (package_alone p) b.stack_max b.heap_max) (k / 16)) (source r p (limits p (package_alone p) b.stack_max b.heap_max) k) result (length h.answers) old.taken new.taken old.faults new.faults) n
-      (subst (λ (k : ℕ). RanCode p.strings (source r p (limits p (package_alone p) b.stack_max k) (steps / 16)) (source r p (limits p (package_alone p) b.stack_max k) steps) result (length h.answers) old.taken new.taken old.faults new.faults) l
-      (subst (λ (k : ℕ). RanCode p.strings (source r p (limits p (package_alone p) k heap_max) (steps / 16)) (source r p (limits p (package_alone p) k heap_max) steps) result (length h.answers) old.taken new.taken old.faults new.faults) m did));
+      subst (λ (k : ℕ). RanCode p.strings (source r p (limits p (coarse p) b.stack_max b.heap_max) (k / 16)) (source r p (limits p (coarse p) b.stack_max b.heap_max) k) result (length h.answers) old.taken new.taken old.faults new.faults) n
+      (subst (λ (k : ℕ). RanCode p.strings (source r p (limits p (coarse p) b.stack_max k) (steps / 16)) (source r p (limits p (coarse p) b.stack_max k) steps) result (length h.answers) old.taken new.taken old.faults new.faults) l
+      (subst (λ (k : ℕ). RanCode p.strings (source r p (limits p (coarse p) k heap_max) (steps / 16)) (source r p (limits p (coarse p) k heap_max) steps) result (length h.answers) old.taken new.taken old.faults new.faults) m did));
 }
 
 -- a whole text that was taken is a front part of itself
@@ -61,7 +61,7 @@ whole_front old new text took = ([], record { done = text; splits = append-nil t
 module _ (p : Program) (b : Bounds) (untouched : Type 0) (old new : Streams) where
   early : (r : Reading) (x : Ending) → ending_in (few_turns p b r) ≡ Some x → few_turns p b r ≡ all_turns p b r
   early r x e =
-      joined (few_turns p b r) (all_turns p b r) (longer_sources_extend r p (limits p (package_alone p) b.stack_max b.heap_max) (b.steps / 16) b.steps (omega arith)) x e
+      joined (few_turns p b r) (all_turns p b r) (longer_sources_extend r p (limits p (coarse p) b.stack_max b.heap_max) (b.steps / 16) b.steps (omega arith)) x e
 
   pub ended : (status : ℕ) → Told p b (Ok status) untouched old new → RanBy p b (answer.Ended status) old new
   ended status h =
@@ -71,7 +71,7 @@ module _ (p : Program) (b : Bounds) (untouched : Type 0) (old new : Streams) whe
         came = h.came;
         leaves = (
           record { ends = λ r starts. (h.does r starts).0; took = λ r starts. (h.does r starts).1; asks = λ r starts. (h.does r starts).2; early = early },
-          exit_status (reading_of h.answers) p (limits p (package_alone p) b.stack_max b.heap_max) b.steps status some.0,
+          exit_status (reading_of h.answers) p (limits p (coarse p) b.stack_max b.heap_max) b.steps status some.0,
         );
       }
 

@@ -6,7 +6,7 @@ use Rattle.outside.specs.Took.{Took, TookPrefix}
 use Rattle.simulation.specs.Outcome.{Outcome}
 use Rattle.typed_syntax.specs.Syntax.{Program}
 use Rattle.typed_syntax.specs.Positions.{Position}
-use Rattle.frames.specs.Placement.{package_alone}
+use Rattle.frames.specs.Placement.{coarse}
 use Rattle.meaning.specs.Trace.{Ending, Panic, Fault}
 use Rattle.meaning.specs.Meaning.{Item}
 use Rattle.meaning.specs.Output.{Sight, Last, source, output, ending_in}
@@ -43,11 +43,11 @@ pub record Begins (answers : List Item) (r : Reading) : Type 0 where
 
 -- what the source of a program shows in as many turns as steps are allowed, under the limits of the stack and the heap
 abbrev pub all_turns : Program → Bounds → Reading → Outcome Sight Last
-all_turns p b r = source r p (limits p (package_alone p) b.stack_max b.heap_max) b.steps
+all_turns p b r = source r p (limits p (coarse p) b.stack_max b.heap_max) b.steps
 
 -- and in a sixteenth of them, rounded down
 abbrev pub few_turns : Program → Bounds → Reading → Outcome Sight Last
-few_turns p b r = source r p (limits p (package_alone p) b.stack_max b.heap_max) (b.steps / 16)
+few_turns p b r = source r p (limits p (coarse p) b.stack_max b.heap_max) (b.steps / 16)
 
 -- within the turns the source ends so, it asks for just the items that came, and out took exactly what it prints; where it
 -- ends in the sixteenth of them already, that is the same run

@@ -74,7 +74,8 @@ fn running_command<'a>(
 {
     let stack = "The words that a stack starts with";
     let max_stack = "The most words that a stack may have";
-    let heap = "The words of the heap, which holds the package variables";
+    let heap =
+        "The words of the heap, which holds package variables and large variables of functions";
     let steps = "The most instructions that run";
     let one = with_arg(
         new_command(alloc, name, about),

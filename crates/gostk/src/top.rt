@@ -171,7 +171,7 @@ fn carry_out<'a, F: Files, I: Source, O: Sink>(
 /// | 203 | the file was not read; or the input failed where the program asks for an item | `gostk: read fault` |
 /// | 204 | `out` or `err` failed | `gostk: write fault`; where `err` failed, a part of the line of another row |
 /// | 205 | N instructions ran, and the program has not ended | `gostk: steps N` |
-/// | 206 | the package variables would have passed the limit of the heap | `gostk: heap used U asked A limit M` |
+/// | 206 | a variable would have passed the limit of the heap | `gostk: heap used U asked A limit M` |
 /// | 207 | a call would have passed the limit of the stack | `gostk: stack used U asked A limit M` |
 /// | 209 | memory was refused | `gostk: no memory` |
 pub fn gostk<F: Files, I: Source, O: Sink, E: Sink>(

@@ -1,11 +1,13 @@
--- Bits past the end, and the package variables one by one.
+-- Bits past the end, those of sites, and the package variables one by one.
 use Rattle.std.proofs.Common.{◌≡◌, ℕ, zero, suc, ◌+◌, ◌<◌, Bool, true, false, List, [], ◌∷◌, ◌++◌, get_or, replicate, length, map, drop, refl, ap, sym, ◌∙◌, arith}
-use Rattle.std.specs.Prelude.{◌==◌, ◌||◌}
+use Rattle.std.specs.Prelude.{◌==◌, ◌||◌, nat_lt}
 use Rattle.std.proofs.Math.Seq.{drop-cons}
-use Rattle.typed_syntax.specs.Types.{TypeTree}
-use Rattle.frames.specs.Placement.{among}
-use Rattle.typed.specs.View.{global_of}
+use Rattle.typed_syntax.specs.Types.{TypeTree, ints, width}
+use Rattle.frames.specs.Placement.{among, most_words}
+use Rattle.typed.specs.View.{addresses_taken, global_of, site_types}
 use Rattle.typed.specs.declared.program.PackageVariable.{PackageVariable}
+use Rattle.typed.specs.declared.program.Site.{Site}
+use Rattle.placement.specs.Told.{is_apart}
 
 no_bits : (n k : ℕ) → get_or (replicate n false) k false ≡ false
 no_bits zero k = refl
@@ -17,6 +19,19 @@ pub padded : (bits : List Bool) (n k : ℕ) → get_or (bits ++ replicate n fals
 padded [] n k = no_bits n k
 padded (b ∷ bits) n zero = refl
 padded (b ∷ bits) n (suc k) = padded bits n k
+
+-- the bit of a site
+pub apart_at : (types : List TypeTree) (sites : List Site) (site : ℕ)
+    → get_or (map (is_apart types) sites) site false ≡ (get_or (addresses_taken sites) site false || nat_lt most_words (width (get_or (site_types types sites) site ints)))
+apart_at types [] site = refl
+apart_at types (x ∷ sites) zero = refl
+apart_at types (x ∷ sites) (suc site) = apart_at types sites site
+
+pub swapped : (a b : Bool) → (a || b) ≡ (b || a)
+swapped true true = refl
+swapped true false = refl
+swapped false true = refl
+swapped false false = refl
 
 passed : (own sofar rest : Bool) → ((own || sofar) || rest) ≡ (sofar || (own || rest))
 passed true true rest = refl

@@ -1,12 +1,16 @@
 //! The placement of variables.
-ghost use Rattle.std.specs.Prelude.{◌≡◌, ◌==◌, ◌||◌, ◌<◌, ℕ, false, get_or, length, IfOk, OnOk};
-ghost use Rattle.frames.specs.Placement.{package_alone as globals_alone};
+ghost use Rattle.std.specs.Prelude.{◌≡◌, ◌==◌, ◌||◌, ◌<◌, ℕ, false, get_or, length, map, IfOk, OnOk};
+ghost use Rattle.frames.specs.Placement.{coarse as coarse_of};
+ghost use Rattle.typed.specs.Trees.{trees};
 ghost use Rattle.typed.specs.View.{program_of};
-ghost use Rattle.placement.specs.Told.{placement_of};
+ghost use Rattle.placement.specs.Told.{is_apart, placement_of};
 
 use base::{NoMemory, SiteId};
 use std::alloc::Global;
-use typed::Program;
+use typed::{Program, Site};
+
+/// The most words of a variable that lives in a frame.
+const MOST_WORDS: u64 = 8192;
 
 /// For each site, whether its variables live on the heap.
 #[derive(Drop)]
@@ -66,12 +70,32 @@ impl Placement {
     }
 }
 
-/// The placement in which the variables of the package live on the heap alone.
-pub fn package_alone(alloc: Global, program: &Program) -> Result<Placement, NoMemory>
-    ensures { IfOk result (λ l. placement_of l ≡ globals_alone (program_of program.now)) }
+// Whether the variables of a site live on the heap even where they aren't those of the package.
+fn lives_apart(program: &Program, site: &Site) -> bool
+    ensures { result ≡ is_apart (trees program.now.types) site.now }
 {
+    site.address_taken || u64::from(program.types.width(site.type_id)) > MOST_WORDS
+}
+
+// The bits of all sites, but for those of package variables.
+fn apart(alloc: Global, program: &Program) -> Result<Vec<bool>, NoMemory>
+    ensures { IfOk result (λ bits. bits.items ≡ map (is_apart (trees program.now.types)) program.now.sites.items) }
+{
+    let sites = program.sites.as_slice();
+    let mut bits = Vec::new(alloc);
+    for site in sites {
+        bits.push(lives_apart(program, site))?;
+    }
+    Ok(bits)
+}
+
+/// The placement that needs no analysis: on the heap live the variables of the package, those whose address is taken, and large ones.
+pub fn coarse(alloc: Global, program: &Program) -> Result<Placement, NoMemory>
+    ensures { IfOk result (λ l. placement_of l ≡ coarse_of (program_of program.now)) }
+{
+    let on_heap = apart(alloc, program)?;
     let globals = program.globals.as_slice();
-    let mut placement = Placement::new(alloc);
+    let mut placement = Placement { on_heap };
     for global in globals {
         placement.put_on_heap(global.site)?;
     }

@@ -1,6 +1,7 @@
 use Rattle.std.proofs.Common.{◌≡◌, ◌+◌, ◌∷◌, [], ◌∙◌, ap, sym, arith}
 use Rattle.typed.specs.View.{left_of, program_of}
-use Rattle.program_code.specs.Code.{lefts_above}
+use Rattle.typed_syntax.specs.Types.{part_type, width}
+use Rattle.program_code.specs.Code.{element_code, lefts_above, site_type}
 use Rattle.expression_code.specs.Frame.{slots_in}
 use Rattle.codegen.proofs.Above.{above_two}
 use Rattle.codegen.proofs.Pairs.{pair_emitted}
@@ -30,5 +31,6 @@ emit_left-requires-clause-operands c =
 
 pub returns : goal.returns
 returns c =
-    pair_emitted (program_of c.args.program.now) (slots_in c.args.program.now c.args.frame.now) c.args.code.now.items _ _ _ _ _ c.args.site.0 c.args.count (left_of c.args.key.now) (left_of c.args.value.now) c.args.h _ _ _
+    let slots = slots_in c.args.program.now c.args.frame.now in
+    pair_emitted (program_of c.args.program.now) slots (element_code slots c.args.site.0 c.args.count c.args.h) (width (part_type (site_type slots c.args.site.0) 0)) (c.args.h + 1) (left_of c.args.key.now) (left_of c.args.value.now) c.args.code.now.items _ _ _ _ _ _ _ _
     c.above_left-second.ensures c.above_left-v.ensures (ap (λ n. c.above_left-v.result + 1 + n) c.element_words.ensures) c.in_ok-ready_left.ensures c.in_ok-ready_left-2.ensures c.in_ok-emit_element.ensures c.in_ok-emit_left.ensures c.in_ok-emit_left-2.ensures

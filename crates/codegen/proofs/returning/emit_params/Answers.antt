@@ -19,7 +19,7 @@ loop-i-preserved c =
     let slots = slots_in c.args.program.now c.args.frame.now in let types = c.args.types.now in let ns = each_width (map (λ t. type_in (trees c.args.program.now.types) t.0) types) in
     let ps = c.args.params.now in let i = c.loop-i.i in
     let behind = width_behind (trees c.args.program.now.types) types i in let sofar = c.loop-i.invariant.2 in (
-      param_emitted slots _ _ _ ns ps i None c.loop-i.word c.nth_words-n.result _ c.loop-i-test.true c.nth_words-n.ensures refl c.loop-i.invariant.0 c.in_ok-emit_param.ensures,
+      param_emitted slots _ _ _ ns ps i None c.loop-i.word c.nth_words-n.result _ c.loop-i-test.true c.nth_words-n.ensures refl c.loop-i.invariant.0 c.in_ok-emit_taken.ensures,
       (params_split slots c.args.frame.now.sites ns ps i None c.loop-i-test.true c.loop-i.invariant.1).1,
       omega (arith, behind, sofar, c.nth_words-n.ensures),
     )

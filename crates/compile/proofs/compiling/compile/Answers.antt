@@ -1,11 +1,11 @@
 use Rattle.std.proofs.Common.{◌≡◌, ◌∙◌, ℕ, List, Err, ap, sym, subst}
 use Rattle.syntax.specs.Declarations.{Syntax, syntax_of}
 use Rattle.typed.specs.View.{program_of}
-use Rattle.frames.specs.Placement.{Placement, IsPlaced, package_alone}
+use Rattle.frames.specs.Placement.{Placement, IsPlaced, coarse}
 use Rattle.placement.specs.Told.{placement_of}
 use Rattle.frame_layout.specs.Layout.{first_too_large, IsTooLarge, layouts}
 use Rattle.program_code.specs.Code.{code_of}
-use Rattle.program_code.proofs.Sites.{package_placed}
+use Rattle.program_code.proofs.Sites.{coarse_placed}
 use Rattle.parse_go.specs.Grammar.{IsText}
 use Rattle.parse_go.specs.Faults.{GivesTree}
 use Rattle.compile.specs.Faults.{of_scan, of_parse, of_typing, of_layout}
@@ -50,7 +50,7 @@ returns-in_err-layouts-clause-refused c =
     let tree = syntax_of c.in_ok-tree.tree in
     let q = c.in_ok-program.program in
     let f = c.in_err-layouts.field-0.0 in
-    let large : IsTooLarge (first_too_large (program_of q) (package_alone (program_of q)) q.funcs.items) f =
+    let large : IsTooLarge (first_too_large (program_of q) (coarse (program_of q)) q.funcs.items) f =
     subst (λ (l : Placement). IsTooLarge (first_too_large (program_of q) l q.funcs.items) f) c.in_ok-placement.ensures c.in_err-layouts.ensures.fault in
     refused_err text _ (of_layout f) c.from_residual-in_err-layouts.ensures.1
     (layout_refuses text tree q f (has_tree text c.in_ok-tokens.tokens tree c.in_ok-tokens.ensures.exact c.in_ok-tokens.ensures.text c.in_ok-tree.ensures.found) c.in_ok-program.ensures.typed c.in_ok-program.ensures.places large)
@@ -62,7 +62,7 @@ returns-in_err-layouts-clause-only c =
     let tree = syntax_of c.in_ok-tree.tree in
     let q = c.in_ok-program.program in
     let f = c.in_err-layouts.field-0.0 in
-    let large : IsTooLarge (first_too_large (program_of q) (package_alone (program_of q)) q.funcs.items) f =
+    let large : IsTooLarge (first_too_large (program_of q) (coarse (program_of q)) q.funcs.items) f =
     subst (λ (l : Placement). IsTooLarge (first_too_large (program_of q) l q.funcs.items) f) c.in_ok-placement.ensures c.in_err-layouts.ensures.fault in
     let one : (other : Syntax) → IsText text tokens.list other → tree ≡ other =
     subst (λ (t : List ℕ). (other : Syntax) → IsText t tokens.list other → tree ≡ other) c.in_ok-tokens.ensures.text c.in_ok-tree.ensures.only in
@@ -80,7 +80,7 @@ returns-clause-only c =
 
 pub emit-requires-clause-placed : goal.emit-requires-clause-placed
 emit-requires-clause-placed c =
-    let p = program_of c.in_ok-program.program in subst (λ (l : Placement). IsPlaced p l) (sym c.in_ok-placement.ensures) (package_placed p c.in_ok-program.ensures.in_form)
+    let p = program_of c.in_ok-program.program in subst (λ (l : Placement). IsPlaced p l) (sym c.in_ok-placement.ensures) (coarse_placed p)
 
 pub returns-clause-does : goal.returns-clause-does
 returns-clause-does c =
@@ -104,5 +104,5 @@ returns-clause-accepted c =
         has = has_tree text c.in_ok-tokens.tokens tree c.in_ok-tokens.ensures.exact c.in_ok-tokens.ensures.text c.in_ok-tree.ensures.found;
         types = c.in_ok-program.ensures.typed;
       };
-      fits = fits_all (program_of q) (package_alone (program_of q)) q.funcs.items (ap (λ (l : Placement). first_too_large (program_of q) l q.funcs.items) (sym c.in_ok-placement.ensures) ∙ c.in_ok-layouts.ensures.small);
+      fits = fits_all (program_of q) (coarse (program_of q)) q.funcs.items (ap (λ (l : Placement). first_too_large (program_of q) l q.funcs.items) (sym c.in_ok-placement.ensures) ∙ c.in_ok-layouts.ensures.small);
     }

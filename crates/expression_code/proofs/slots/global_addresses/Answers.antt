@@ -1,5 +1,5 @@
 use Rattle.std.proofs.Common.{arith}
-use Rattle.expression_code.proofs.Variables.{addresses_done}
+use Rattle.expression_code.proofs.PackageVariables.{addresses_done}
 use Rattle.expression_code.proofs.slots.global_addresses.Goals as goal
 
 pub returns : goal.returns

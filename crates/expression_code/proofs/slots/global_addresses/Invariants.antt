@@ -1,7 +1,7 @@
 use Rattle.std.proofs.Common.{◌≡◌, ◌++◌, drop}
 use Rattle.heap_bump.specs.Words.{first_address}
 use Rattle.expression_code.specs.Frame.{addresses, sites_in}
-use Rattle.expression_code.proofs.Variables.{sites_of}
+use Rattle.expression_code.proofs.PackageVariables.{sites_of}
 use Rattle.expression_code.proofs.slots.global_addresses.Given as goal
 
 abbrev pub invariant-loop-global : goal.invariant-loop-global

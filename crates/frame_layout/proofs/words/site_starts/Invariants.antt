@@ -7,7 +7,8 @@ use Rattle.frame_layout.proofs.words.site_starts.Given as goal
 
 abbrev pub invariant-loop-i : goal.invariant-loop-i
 invariant-loop-i l = let at = placement_of l.placement in let sites = (program_of l.program).sites in let cells = cells_between at l.first l.count in record {
-  counted : l.words + words_between at sites (l.first + l.i) (l.count - l.i) ≡ cells + words_between at sites l.first l.count;
-  listed : starts at sites l.first cells l.count ≡ l.starts.items ++ starts at sites (l.first + l.i) l.words (l.count - l.i);
+  numbered : l.cell + cells_between at (l.first + l.i) (l.count - l.i) ≡ cells;
+  counted : l.word + words_between at sites (l.first + l.i) (l.count - l.i) ≡ cells + words_between at sites l.first l.count;
+  listed : starts at sites l.first 0 cells l.count ≡ l.starts.items ++ starts at sites (l.first + l.i) l.cell l.word (l.count - l.i);
   within : l.i ≤ l.count;
 }

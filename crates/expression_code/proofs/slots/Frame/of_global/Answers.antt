@@ -1,7 +1,7 @@
 use Rattle.std.proofs.Common.{◌∙◌, ap, length, arith}
 use Rattle.heap_bump.specs.Words.{first_address}
 use Rattle.expression_code.specs.Frame.{globals_in, sites_in}
-use Rattle.expression_code.proofs.Variables.{address_is, addresses_length}
+use Rattle.expression_code.proofs.PackageVariables.{address_is, addresses_length}
 use Rattle.expression_code.proofs.slots.Frame.of_global.Goals as goal
 
 pub index-requires : goal.index-requires
