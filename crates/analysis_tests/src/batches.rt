@@ -64,6 +64,7 @@ fn program(alloc: Global, funcs: Vec<Func>) -> Result<Program, Fail> {
         types: TypeTable::new(alloc, 0)?,
         strings: Vec::new(alloc),
         globals: Vec::new(alloc),
+        names: Vec::new(alloc),
     })
 }
 
