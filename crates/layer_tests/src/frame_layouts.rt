@@ -2,9 +2,10 @@
 
 ghost use Rattle.std.specs.Prelude.{◌<◌, length};
 
+use crate::sites::variable;
 use base::{FuncId, Pos, SiteId, TypeId, ValueType};
 use frame_layout::{FrameLayout, layout_of};
-use placement::{Placement, package_alone};
+use placement::{Placement, coarse};
 use std::alloc::Global;
 use std::process::Abort;
 use std::test::Fail;
@@ -67,6 +68,7 @@ fn program_of(alloc: Global, funcs: Vec<Func>, types: TypeTable, sites: Vec<Site
         types,
         strings: Vec::new(alloc),
         globals: Vec::new(alloc),
+        names: Vec::new(alloc),
     }
 }
 
@@ -87,7 +89,7 @@ fn array_site(types: &mut TypeTable) -> Result<Site, Fail>
     requires { 0 < length types.old.types }
 {
     let type_id = types.enter(ValueType::Array(2, TypeId(0)))?;
-    Ok(Site { pos: AT, type_id })
+    Ok(variable(AT, type_id))
 }
 
 // a[f(7)]
@@ -149,7 +151,7 @@ fn check_array(
 #[test]
 fn arrays_are_laid_out(rt: HostRuntime) -> Result<(), Fail> {
     let program = element_of_an_array(rt.alloc())?;
-    let mut placement = package_alone(rt.alloc(), &program)?;
+    let mut placement = coarse(rt.alloc(), &program)?;
     // The array's two words, and where it lives on the heap its cell.
     check_array(&rt, rt.alloc(), &program, &placement, 9)?;
     placement.put_on_heap(SiteId(0))?;
@@ -157,7 +159,7 @@ fn arrays_are_laid_out(rt: HostRuntime) -> Result<(), Fail> {
 }
 
 fn check_frames(rt: &impl Abort, alloc: Global, program: &Program) -> Result<(), Fail> {
-    let placement = package_alone(alloc, program)?;
+    let placement = coarse(alloc, program)?;
     let layouts = layout_of(alloc, program, &placement)?;
     let want = [
         FrameLayout {

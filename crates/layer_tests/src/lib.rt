@@ -25,6 +25,8 @@ mod scanner;
 #[cfg(test)]
 mod scopes;
 #[cfg(test)]
+mod sites;
+#[cfg(test)]
 mod slice_frames;
 #[cfg(test)]
 mod stack_region;

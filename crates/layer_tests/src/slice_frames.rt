@@ -2,9 +2,10 @@
 
 ghost use Rattle.std.specs.Prelude.{◌<◌, length};
 
+use crate::sites::variable;
 use base::{FuncId, Pos, SiteId, TypeId, ValueType};
 use frame_layout::{FrameLayout, layout_of};
-use placement::package_alone;
+use placement::coarse;
 use std::alloc::Global;
 use std::process::Abort;
 use std::test::Fail;
@@ -100,10 +101,7 @@ fn add_followers(alloc: Global, funcs: &mut Vec<Func>) -> Result<(), Fail> {
 fn sites(alloc: Global) -> Result<Vec<Site>, Fail> {
     let mut sites = Vec::new(alloc);
     for _ in 0..7 {
-        sites.push(Site {
-            pos: AT,
-            type_id: INT,
-        })?;
+        sites.push(variable(AT, INT))?;
     }
     Ok(sites)
 }
@@ -121,6 +119,7 @@ fn program(alloc: Global) -> Result<Program, Fail> {
         types,
         strings: Vec::new(alloc),
         globals: Vec::new(alloc),
+        names: Vec::new(alloc),
     })
 }
 
@@ -134,7 +133,7 @@ fn frame(temps: u16, sites: u16) -> FrameLayout {
 }
 
 fn check_frames(rt: &impl Abort, alloc: Global, program: &Program) -> Result<(), Fail> {
-    let placement = package_alone(alloc, program)?;
+    let placement = coarse(alloc, program)?;
     let layouts = layout_of(alloc, program, &placement)?;
     // The pointer; a header and a literal of one above it; a header, the index, the value and the address; a header and two bounds; a
     // header, the index and both variables.

@@ -20,6 +20,8 @@ mod parser;
 #[cfg(test)]
 mod programs;
 #[cfg(test)]
+mod sites;
+#[cfg(test)]
 mod slice_steps;
 #[cfg(test)]
 mod trees;
