@@ -1,6 +1,7 @@
 -- The code of a program is a code.
 use Rattle.std.proofs.Common.{◌≡◌, ◌⊎◌, inl, inr, ℕ, zero, suc, ◌+◌, ◌-◌, ◌*◌, ◌<◌, ◌≤◌, Bool, true, false, List, [], ◌∷◌, ◌++◌, length, map, replicate, Some, refl, sym, ap, ◌∙◌, subst, arith, length-append, append_assoc}
-use Rattle.std.specs.Prelude.{if◌then◌else◌, Option, None, slice_get, ⊤}
+use Rattle.std.specs.Prelude.{if◌then◌else◌, ◌&&◌, not, get_or, Option, None, slice_get, ⊤}
+use Rattle.std.proofs.lemmas.Bool.{false≢true}
 use Rattle.std.proofs.lemmas.Option.{slice_get_within}
 use Rattle.isa.specs.Code.{AddedFits, AreLaid, CanCall, Fits as FitsAt, FitsPlace, IsCode, IsLinked, owners_of}
 use Rattle.isa.specs.declared.func.Func.{Func as Entry}
@@ -76,22 +77,28 @@ module _ (fns : List Entry) (strings slots incoming start end : ℕ) where
   All (i ∷ is) = Ok i × All is
 
 -- a site's cell stands before those of later sites
-cells_next : (pl : Placement) (from k n : ℕ) → k < n → cells_between pl from k + cell_words pl (from + k) ≤ cells_between pl from n
-cells_next pl from k zero lt = absurd (omega (arith, lt))
-cells_next pl from zero (suc n) lt = let e : from + 0 ≡ from = omega arith in let q = ap (cell_words pl) e in omega (arith, q)
-cells_next pl from (suc k) (suc n) lt =
+cells_next : (pl : Placement) (made : List Bool) (from k n : ℕ) → k < n → cells_between pl made from k + cell_words pl made (from + k) ≤ cells_between pl made from n
+cells_next pl made from k zero lt = absurd (omega (arith, lt))
+cells_next pl made from zero (suc n) lt = let e : from + 0 ≡ from = omega arith in let q = ap (cell_words pl made) e in omega (arith, q)
+cells_next pl made from (suc k) (suc n) lt =
     let e : suc from + k ≡ from + suc k = omega arith in
-    let q = ap (cell_words pl) e in
-    let l = cells_next pl (suc from) k n (omega (arith, lt)) in omega (arith, q, l)
+    let q = ap (cell_words pl made) e in
+    let l = cells_next pl made (suc from) k n (omega (arith, lt)) in omega (arith, q, l)
+
+-- one that has a name and is on the heap has a cell
+cell_is : (heap made : Bool) → heap ≡ true → made ≡ false → ◌≡◌ {A = ℕ} (if heap && not made then 1 else 0) 1
+cell_is true false apart named = refl
+cell_is true true apart named = absurd (false≢true (sym named))
+cell_is false made apart named = absurd (false≢true apart)
 
 -- the code of a function of which these are the slots
 module _ (p : Program) (solid : (site : ℕ) → 0 < site_width p site) (pl : Placement) (outgoing temps first n : ℕ) (fns : List Entry) (strings arguments wanted start end : ℕ)
-    (can : (f : ℕ) → f < length p.funcs → arguments_of p f + results_of p f ≤ outgoing → CanCall fns (outgoing + temps + (cells_between pl first n + words_between pl p.sites first n)) f) where
+    (can : (f : ℕ) → f < length p.funcs → arguments_of p f + results_of p f ≤ outgoing → CanCall fns (outgoing + temps + (cells_between pl p.made first n + words_between pl p.sites first n)) f) where
   abbrev s : Slots
-  s = record { outgoing = outgoing; temps = temps; first = first; count = n; placement = pl; types = p.types; sites = p.sites; globals = map (λ g. g.0) p.globals }
+  s = record { outgoing = outgoing; temps = temps; first = first; count = n; placement = pl; types = p.types; sites = p.sites; made = p.made; globals = map (λ g. g.0) p.globals }
 
   abbrev room : ℕ
-  room = outgoing + temps + (cells_between pl first n + words_between pl p.sites first n)
+  room = outgoing + temps + (cells_between pl p.made first n + words_between pl p.sites first n)
 
   abbrev Are : List Instr → Type 0
   Are is = All fns strings room (arguments + wanted) start end is
@@ -113,8 +120,8 @@ module _ (p : Program) (solid : (site : ℕ) → 0 < site_width p site) (pl : Pl
   cell_in site f apart =
       let from = f.0 in let to = f.1 in
       let e : first + (site - first) ≡ site = omega (arith, from) in
-      let one : cell_words pl (first + (site - first)) ≡ 1 = ap (cell_words pl) e ∙ ap (λ (heap : Bool). if heap then 1 else 0) apart in
-      let l = cells_next pl first (site - first) n (omega (arith, from, to)) in omega (arith, one, l)
+      let one : cell_words pl p.made (first + (site - first)) ≡ 1 = ap (cell_words pl p.made) e ∙ cell_is (pl.on_heap site) (get_or p.made site false) apart f.2 in
+      let l = cells_next pl p.made first (site - first) n (omega (arith, from, to)) in omega (arith, one, l)
 
   site_in : (site : ℕ) → SiteFits s n site → Has (site_access s site) (site_width p site)
   site_in site f = by (pl.on_heap site) refl
@@ -346,7 +353,7 @@ module _ (p : Program) (solid : (site : ℕ) → 0 < site_width p site) (pl : Pl
         join (ex_code p s e h pc) (Move Silent (temp s h) from w ∷ []) (ex_ok e h pc f.2 a (omega arith)) (moved_ok Silent w (temp s h) from [] f.0 (omega (arith, k)) (omega (arith, k)) tt)
     ex_ok (literal m es) h pc f a l =
         let t = type_named p m in let k = f.1 in zeroed_ok (width t) (temp s h) (elements_code p s t (ascend es) es h (pc + 1)) f.0 (omega (arith, k)) (elements_ok t (ascend es) es h (pc + 1) f.2 (omega arith) (omega arith))
-    ex_ok (nil m) h pc f a l = let k = f.1 in zeroed_ok (width (type_named p m)) (temp s h) [] f.0 (omega (arith, k)) tt
+    ex_ok (nil t) h pc f a l = let k = f.1 in zeroed_ok (width t) (temp s h) [] f.0 (omega (arith, k)) tt
     ex_ok (address_of q) h pc f a l = join (place_code p s q h pc) (pointing_code s q (place_above q h) h) (place_ok q h pc (address_size q + 1) f.3 a l) (pointing_ok q h f.0 f.1 f.2)
     ex_ok (new_variable site) h pc f a l = (omega arith, tt)
     ex_ok (literal_variable site e) h pc f a l =
@@ -901,7 +908,7 @@ module _ (p : Program) (pl : Placement) (form : IsInForm p) (solid : AreSolid p)
 
   func_ok : (func : Func) (pc : ℕ) → FuncFitsIn p pl func → StsWithin strings false func.body → All fns strings (frame_of p pl func - 2) (argument_words func + result_words func) pc (pc + func_size p pl func) (func_code p pl func pc)
   func_ok func pc ok within =
-      let s = slots_of p pl func in let n = func.count in let m = argument_words func in let long = cells_between pl func.first func.count + words_between pl p.sites func.first func.count in
+      let s = slots_of p pl func in let n = func.count in let m = argument_words func in let long = cells_between pl p.made func.first func.count + words_between pl p.sites func.first func.count in
       let slots : s.outgoing + s.temps + long ≡ frame_of p pl func - 2 = omega arith in
       let end = pc + func_size p pl func in
       let can_call = can (s.outgoing + s.temps + long) s.outgoing (omega arith) in

@@ -1,4 +1,5 @@
 pub mod Operands
+pub mod Ascending
 pub mod Suffice
 pub mod Within
 pub mod IsCode

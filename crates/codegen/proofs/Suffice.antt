@@ -9,7 +9,7 @@ use Rattle.typed_syntax.specs.Value.{Value, int, bool}
 use Rattle.typed_syntax.specs.Paths.{Leads, type_at}
 use Rattle.value_laws.proofs.Parts.{element, leads_to, within}
 use Rattle.typed_syntax.specs.Syntax.{Ex, Exs, Pl, Steps, Left, Piece, St, Sts, Func, Program, constant, read, unary, binary, logical_and, logical_or, call, part_of, literal, Elements, no_elements, element as element_then, nil, address_of, new_variable, literal_variable, slice_literal, make, append, append_slice, copy, slicing, array_slicing, len, cap, Bound, absent, bound, local, global, indirect, slice_element, here, inner, at_index, none, more, results, read_int, blank, new, to, text, shown, over_int, over_length, over_copy, over_slice, over_pointer, over_pointed, declare, assign, update, bump, discard, block, if_stmt, for_stmt, range, break_stmt, continue_stmt, return_stmt, print, panic, exit, done, next, all_width, each_width, arguments_in, result_words, arguments_of, results_of, type_named, global_type, site_type, site_width, path_of, wide, all_wide, value_widths, ascend, words_before}
-use Rattle.typed_syntax.specs.Form.{PlFits, StepsLead, ElementsFit, InScope, AllInScope, births, births_all, new_sites, scope_behind, scope_with, scope_after, SitesNext, LeftsFit, ExFits, BoundFits, AllFit, ExsFit, TestFits, PiecesFit, ReturnFits, StFits, StsFit, ParamsFit, NamedFit, named_params, params_scope, scope_in, body_first, FuncFits, IsInForm}
+use Rattle.typed_syntax.specs.Form.{PlFits, StepsLead, ElementsFit, InScope, AllInScope, lefts_after, declared_after, all_sites_after, scope_behind, scope_with, scope_after, IsNext, SitesNext, LeftsFit, ExFits, BoundFits, AllFit, ExsFit, TestFits, PiecesFit, ReturnFits, StFits, StsFit, ParamsFit, NamedFit, named_params, params_scope, scope_in, body_first, FuncFits, IsInForm}
 use Rattle.frames.specs.Placement.{Placement}
 use Rattle.frames.specs.Frames.{far, left_far, lefts_far, behind_values, bound_need, bound_reach, elements_round, pair_need, place_need, steps_need, elements_need, lefts_need, place_reach, steps_reach, elements_reach, lefts_reach, need, need_all, need_pieces, reach, reach_all, reach_pieces, test_need, test_reach, widest, entry_need, temps_of, st_need, sts_need, st_reach, sts_reach}
 use Rattle.program_code.specs.Code.{Slots, other_widths, global_type as variable_type, above_address, compared, element_words, is_nil, near_words, place_above, lefts_above, root_type, site_words, slots_of, steps_of}
@@ -18,6 +18,7 @@ use Rattle.program_code.proofs.Wide.{nilable_some, plain_one, takes_some, takes_
 use Rattle.expression_code.specs.Temps.{SiteFits, IndicesFit, RootFits, PlaceFits, CallFits, Fits, BoundFitsIn, OperandsFit, StepsFitIn, ElementsFitIn, ExsFitIn}
 use Rattle.codegen.specs.Temps.{SitesFit, ParamsFitIn, LeftFits, left_words, LeftsFitIn, ValuesFit, MovesFit, ReadyFitIn, PiecesFitIn, SliceRoundFits, TestFitsIn, StFitsIn, StsFitIn, FuncFitsIn, sites_words}
 use Rattle.codegen.proofs.Operands.{above_sum}
+use Rattle.codegen.proofs.Ascending.{after_all, after_lefts, after_one}
 
 -- the sites in scope are among them
 abbrev pub Below : Slots → ℕ → List ℕ → Type 0
@@ -31,16 +32,10 @@ below_with : (s : Slots) (n : ℕ) (scope sites : List ℕ) → Below s n scope 
 below_with s n scope [] b f = b
 below_with s n scope (site ∷ sites) b f = below_with s n (site ∷ scope) sites (below_more s n site scope f.0 b) f.1
 
--- sites that are in scope, and sites that are the next ones, are among them
+-- sites that are in scope are among them
 sites_below : (s : Slots) (n : ℕ) (scope sites : List ℕ) → Below s n scope → AllInScope scope sites → SitesFit s n sites
 sites_below s n scope [] b f = tt
 sites_below s n scope (site ∷ sites) b f = (b site f.0, sites_below s n scope sites b f.1)
-
-next_fit : (s : Slots) (n m : ℕ) (sites : List ℕ) → s.first ≤ m → SitesNext m (s.first + n) sites → SitesFit s n sites
-next_fit s n m [] a f = tt
-next_fit s n m (site ∷ sites) a f =
-    let from : s.first ≤ site = (let e = f.0 in omega (arith, e)) in
-    let behind : site < s.first + n = (let e = f.0 in let k = f.1 in omega (arith, e, k)) in ((from, behind), next_fit s n (suc m) sites (omega arith) f.2)
 
 -- results with names have their words
 names_words : (p : Program) (s : Slots) → s.sites ≡ p.sites → (named : List ℕ) → sites_words s named ≡ all_width (map (site_type p) named)
@@ -144,11 +139,15 @@ module _ (p : Program) (form : IsInForm p) (solid : (t : ℕ) → 0 < width (typ
   -- the frame's slots
   module _ (pl : Placement) (outgoing temps first n : ℕ) where
     abbrev s : Slots
-    s = record { outgoing = outgoing; temps = temps; first = first; count = n; placement = pl; types = p.types; sites = p.sites; globals = map (λ g. g.0) p.globals }
+    s = record { outgoing = outgoing; temps = temps; first = first; count = n; placement = pl; types = p.types; sites = p.sites; made = p.made; globals = map (λ g. g.0) p.globals }
 
-    -- the next site
-    next_fits : (m site : ℕ) → first ≤ m → site ≡ m → m < first + n → SiteFits s n site
-    next_fits m site a is last = let from : first ≤ site = omega (arith, a, is) in let behind : site < first + n = omega (arith, is, last) in (from, behind)
+    -- the next site, and the next ones
+    next_fits : (m site : ℕ) → first ≤ m → IsNext p m (first + n) site → SiteFits s n site
+    next_fits m site a (from, last, named) = (omega (arith, a, from), last, named)
+
+    next_fit : (m : ℕ) (sites : List ℕ) → first ≤ m → SitesNext p m (first + n) sites → SitesFit s n sites
+    next_fit m [] a f = tt
+    next_fit m (site ∷ sites) a f = let fit = next_fits m site a f.0 in (fit, next_fit (suc site) sites (let from = fit.0 in omega (arith, from)) f.1)
 
     -- the type of a package variable, by its site
     same_global : (g : ℕ) → variable_type s g ≡ global_type p g
@@ -376,9 +375,9 @@ module _ (p : Program) (form : IsInForm p) (solid : (t : ℕ) → 0 < width (typ
     lefts_fit at h scope m (t ∷ ts) (blank ∷ ls) a b f l k = (omega arith, tt, omega arith, lefts_fit at (h + width t) scope m ts ls a b f (omega arith) (omega arith))
     lefts_fit at h scope m (t ∷ ts) (new site ∷ ls) a b f l k = (
       omega arith,
-      next_fits m site a f.0 f.1,
-      (let e = ap width f.2 in omega (arith, e)),
-      lefts_fit at (h + width t) scope (suc m) ts ls (omega arith) b f.3 (omega arith) (omega arith),
+      next_fits m site a f.0,
+      (let e = ap width f.1 in omega (arith, e)),
+      lefts_fit at (h + width t) scope (suc site) ts ls (let from = f.0.0 in omega (arith, a, from)) b f.2 (omega arith) (omega arith),
     )
     lefts_fit at h scope m (t ∷ ts) (to q ∷ ls) a b f l k = (
       omega arith,
@@ -393,7 +392,7 @@ module _ (p : Program) (form : IsInForm p) (solid : (t : ℕ) → 0 < width (typ
     ready_fit h scope m e ts [] behind others b f l o = tt
     ready_fit h scope m e [] (left ∷ ls) behind others b f l o = absurd f
     ready_fit h scope m e (t ∷ ts) (blank ∷ ls) behind others b f l o = ready_fit h scope m e ts ls behind others b f l o
-    ready_fit h scope m e (t ∷ ts) (new site ∷ ls) behind others b f l o = ready_fit h scope (suc m) e ts ls behind others b f.3 l o
+    ready_fit h scope m e (t ∷ ts) (new site ∷ ls) behind others b f l o = ready_fit h scope (suc site) e ts ls behind others b f.2 l o
     ready_fit h scope m e (t ∷ ts) (to q ∷ ls) behind others b f l o = (
       operands_fit h scope t q (lefts_need p ls behind) (lefts_reach p ls others) b f.0 l o,
       ready_fit (place_above q h) scope m e ts ls behind others b f.1 (place_room p temps h (lefts_need p ls behind) q l) (let k = place_others p (lefts_reach p ls others) q in omega (arith, k, o)),
@@ -402,13 +401,13 @@ module _ (p : Program) (form : IsInForm p) (solid : (t : ℕ) → 0 < width (typ
     -- one left side for a number
     key_fits : (at : ℕ) (scope : List ℕ) (m : ℕ) (key : Left) → first ≤ m → Below s n scope → LeftsFit p scope m (first + n) (ints ∷ []) (key ∷ []) → at + left_far key ≤ temps → LeftFits s n at key × (left_words s key ≤ 1)
     key_fits at scope m blank a b f l = (tt, omega arith)
-    key_fits at scope m (new site) a b f l = (next_fits m site a f.0 f.1, (let e = ap width f.2 in omega (arith, e)))
+    key_fits at scope m (new site) a b f l = (next_fits m site a f.0, (let e = ap width f.1 in omega (arith, e)))
     key_fits at scope m (to q) a b f l = ((place_fits scope ints q b f.0, l), words_most scope ints q f.0)
 
     -- the left sides of a round over a slice of elements of a type
     first_fit : (scope : List ℕ) (m : ℕ) (r : TypeTree) (key : Left) → LeftsFit p scope m (first + n) (ints ∷ r ∷ []) (key ∷ blank ∷ []) → LeftsFit p scope m (first + n) (ints ∷ []) (key ∷ [])
     first_fit scope m r blank f = tt
-    first_fit scope m r (new site) f = (f.0, f.1, f.2, tt)
+    first_fit scope m r (new site) f = (f.0, f.1, tt)
     first_fit scope m r (to q) f = (f.0, tt)
 
     pair_fits : (h : ℕ) (scope : List ℕ) (m : ℕ) (r : TypeTree) (ls : List Left) (others : ℕ) → first ≤ m → Below s n scope → LeftsFit p scope m (first + n) (ints ∷ r ∷ []) ls → h + pair_need p ls (1 + width r) ≤ temps → lefts_reach p ls others ≤ outgoing
@@ -436,12 +435,13 @@ module _ (p : Program) (form : IsInForm p) (solid : (t : ℕ) → 0 < width (typ
     below_behind m scope around [] (left ∷ ls) a b f = absurd f
     below_behind m scope around (t ∷ ts) (blank ∷ ls) a b f = below_behind m scope around ts ls a b f
     below_behind m scope around (t ∷ ts) (new site ∷ ls) a b f =
-        below_behind (suc m) (site ∷ scope) around ts ls (omega arith) (below_more s n site scope (next_fits m site a f.0 f.1) b) f.3
+        let fit = next_fits m site a f.0 in
+        below_behind (suc site) (site ∷ scope) around ts ls (let from = fit.0 in omega (arith, from)) (below_more s n site scope fit b) f.2
     below_behind m scope around (t ∷ ts) (to q ∷ ls) a b f = below_behind m scope around ts ls a b f.1
 
     module _ (wanted : List TypeTree) (named : List ℕ) where
       below_after : (looped : Bool) (m : ℕ) (scope : List ℕ) (t : St) → first ≤ m → Below s n scope → StFits p wanted (length named) looped scope m (first + n) t → Below s n (scope_after scope t)
-      below_after looped m scope (declare sites) a b f = below_with s n scope sites b (next_fit s n m sites a f)
+      below_after looped m scope (declare sites) a b f = below_with s n scope sites b (next_fit m sites a f)
       below_after looped m scope (assign ls es) a b f = below_behind m scope scope f.0 ls a b f.1
       below_after looped m scope (update at q op e) a b f = b
       below_after looped m scope (bump at q op) a b f = b
@@ -484,7 +484,7 @@ module _ (p : Program) (form : IsInForm p) (solid : (t : ℕ) → 0 < width (typ
 
         mutual
           st_fits : (looped : Bool) (h m : ℕ) (scope : List ℕ) (t : St) → first ≤ m → Below s n scope → StFits p wanted (length named) looped scope m (first + n) t → h + st_need p named t ≤ temps → st_reach p t ≤ outgoing → StFitsIn p s n (all_width wanted) named h t
-          st_fits looped h m scope (declare sites) a b f k o = next_fit s n m sites a f
+          st_fits looped h m scope (declare sites) a b f k o = next_fit m sites a f
           st_fits looped h m scope (assign ls es) a b (ts, lefts, fit) k o =
               let words = all_wide_is p scope ts es fit in let values = lefts_above ls h in
               let behind = max (need_all p es) (behind_values (all_wide p es) (lefts_far ls)) in
@@ -515,14 +515,14 @@ module _ (p : Program) (form : IsInForm p) (solid : (t : ℕ) → 0 < width (typ
             (let c = some_need scope bools e refl f.0 in omega arith),
             ex_fits h scope bools e b f.0 (omega arith) (omega arith),
             sts_fit looped h m scope x a b f.1 (omega arith) (omega arith),
-            sts_fit looped h (m + births_all x) scope y (omega arith) b f.2 (omega arith) (omega arith),
+            sts_fit looped h (all_sites_after m x) scope y (let r = after_all p (first + n) wanted (length named) looped scope m x f.1 in omega (arith, a, r)) b f.2 (omega arith) (omega arith),
           )
           st_fits looped h m scope (for_stmt sites test post body) a b f k o = (
             test_fits h scope test b f.1 (omega arith) (omega arith),
             sites_below s n scope sites b f.0,
             moves_fit h sites (omega arith),
             sts_fit false h m scope post a b f.2 (omega arith) (omega arith),
-            sts_fit true h (m + births_all post) scope body (omega arith) b f.3 (omega arith) (omega arith),
+            sts_fit true h (all_sites_after m post) scope body (let r = after_all p (first + n) wanted (length named) false scope m post f.2 in omega (arith, a, r)) b f.3 (omega arith) (omega arith),
           )
           st_fits looped h m scope (range (over_int e) key blank body) a b f k o =
               let above = key_room p temps h key (omega arith) in let calls = lefts_others p (sts_reach p body) (key ∷ []) in let alone = key_alone p key (sts_reach p body) in
@@ -532,7 +532,7 @@ module _ (p : Program) (form : IsInForm p) (solid : (t : ℕ) → 0 < width (typ
                 ready_fit (h + 2) scope m (first + n) (ints ∷ []) (key ∷ []) (left_far key) (sts_reach p body) b f.1 above (omega (arith, alone, o)),
                 fit.0,
                 fit.1,
-                sts_fit true (h + 2) (m + new_sites (key ∷ [])) (scope_behind scope (key ∷ [])) body (omega arith) (below_behind m scope scope (ints ∷ []) (key ∷ []) a b f.1) f.2 (omega arith) (omega (arith, calls, alone, o)),
+                sts_fit true (h + 2) (lefts_after m (key ∷ [])) (scope_behind scope (key ∷ [])) body (let r = after_lefts p (first + n) scope m (ints ∷ []) (key ∷ []) f.1 in omega (arith, a, r)) (below_behind m scope scope (ints ∷ []) (key ∷ []) a b f.1) f.2 (omega arith) (omega (arith, calls, alone, o)),
               )
           st_fits looped h m scope (range (over_int e) key (new site) body) a b f k o = absurd f
           st_fits looped h m scope (range (over_int e) key (to q) body) a b f k o = absurd f
@@ -543,15 +543,16 @@ module _ (p : Program) (form : IsInForm p) (solid : (t : ℕ) → 0 < width (typ
                 ready_fit (h + 1) scope m (first + n) (ints ∷ []) (key ∷ []) (left_far key) (sts_reach p body) b f.1 above (omega (arith, alone, o)),
                 fit.0,
                 fit.1,
-                sts_fit true (h + 1) (m + new_sites (key ∷ [])) (scope_behind scope (key ∷ [])) body (omega arith) (below_behind m scope scope (ints ∷ []) (key ∷ []) a b f.1) f.2 (omega arith) (omega (arith, calls, alone, o)),
+                sts_fit true (h + 1) (lefts_after m (key ∷ [])) (scope_behind scope (key ∷ [])) body (let r = after_lefts p (first + n) scope m (ints ∷ []) (key ∷ []) f.1 in omega (arith, a, r)) (below_behind m scope scope (ints ∷ []) (key ∷ []) a b f.1) f.2 (omega arith) (omega (arith, calls, alone, o)),
               )
           st_fits looped h m scope (range (over_length x) key (new site) body) a b f k o = absurd f
           st_fits looped h m scope (range (over_length x) key (to q) body) a b f k o = absurd f
-          st_fits looped h m scope (range (over_copy site e x) key value body) a b (r, is, wide, few, place, within_n, fit, lefts, inner_fit) k o =
+          st_fits looped h m scope (range (over_copy site e x) key value body) a b (r, is, wide, few, place, fit, lefts, inner_fit) k o =
               let ls = key ∷ value ∷ [] in let v = lefts_above ls (h + 1) in let w = width (part_type (site_type p site) 0) in
               let behind = max (1 + w) (behind_values (1 + w) (lefts_far ls)) in
               let room = lefts_room p temps (h + 1) behind ls (omega arith) in let calls = lefts_others p (sts_reach p body) ls in
-              let from : first ≤ site = omega (arith, place, a) in let own : SiteFits s n site = (from, within_n) in
+              let after = after_lefts p (first + n) (site ∷ scope) m (ints ∷ r ∷ []) ls lefts in
+              let own = next_fits (lefts_after m ls) site (omega (arith, a, after)) place in
               let around = below_more s n site scope own b in
               let some : 0 < x = array_some x r (subst (λ u. 0 < width u) is (form.solid site)) in
               let same : w ≡ width r = ap width (ap (λ u. part_type u 0) is ∙ ((element x r r 0 [] some).leads refl).1) in
@@ -567,7 +568,7 @@ module _ (p : Program) (form : IsInForm p) (solid : (t : ℕ) → 0 < width (typ
                 ready_fit (h + 1) (site ∷ scope) m (first + n) (ints ∷ r ∷ []) ls behind (sts_reach p body) around lefts (omega arith) (omega (arith, o)),
                 omega (arith, room),
                 subst (λ j. LeftsFitIn s n (v + 1 + w) v (1 ∷ j ∷ []) ls) (sym same) (lefts_fit (v + 1 + w) v (site ∷ scope) m (ints ∷ r ∷ []) ls a around lefts (omega (arith, room, same)) (omega (arith, address))),
-                sts_fit true (h + 1) (m + new_sites ls + 1) (scope_behind (site ∷ scope) ls) body (omega (arith, a)) (below_behind m (site ∷ scope) (site ∷ scope) (ints ∷ r ∷ []) ls a around lefts) inner_fit (omega arith) (omega (arith, calls, o)),
+                sts_fit true (h + 1) (suc site) (scope_behind (site ∷ scope) ls) body (let from = own.0 in omega (arith, from)) (below_behind m (site ∷ scope) (site ∷ scope) (ints ∷ r ∷ []) ls a around lefts) inner_fit (omega arith) (omega (arith, calls, o)),
               )
           st_fits looped h m scope (range (over_pointer at e x t) key value body) a b (arr, is, wide, few, used, fit, lefts, inner_fit) k o =
               let ls = key ∷ value ∷ [] in let v = lefts_above ls (h + 2) in let r = type_named p t in let w = width r in
@@ -584,7 +585,7 @@ module _ (p : Program) (form : IsInForm p) (solid : (t : ℕ) → 0 < width (typ
                 ready_fit (h + 2) scope m (first + n) (ints ∷ r ∷ []) ls behind (sts_reach p body) b lefts (omega arith) (omega (arith, o)),
                 omega (arith, room),
                 lefts_fit (v + 1 + w) v scope m (ints ∷ r ∷ []) ls a b lefts (omega (arith, room)) (omega (arith, address)),
-                sts_fit true (h + 2) (m + new_sites ls) (scope_behind scope ls) body (omega arith) (below_behind m scope scope (ints ∷ r ∷ []) ls a b lefts) inner_fit (omega arith) (omega (arith, calls, o)),
+                sts_fit true (h + 2) (lefts_after m ls) (scope_behind scope ls) body (let after = after_lefts p (first + n) scope m (ints ∷ r ∷ []) ls lefts in omega (arith, a, after)) (below_behind m scope scope (ints ∷ r ∷ []) ls a b lefts) inner_fit (omega arith) (omega (arith, calls, o)),
               )
           st_fits looped h m scope (range (over_pointed x) key blank body) a b f k o =
               let above = key_room p temps h key (omega arith) in let calls = lefts_others p (sts_reach p body) (key ∷ []) in let alone = key_alone p key (sts_reach p body) in
@@ -593,7 +594,7 @@ module _ (p : Program) (form : IsInForm p) (solid : (t : ℕ) → 0 < width (typ
                 ready_fit (h + 2) scope m (first + n) (ints ∷ []) (key ∷ []) (left_far key) (sts_reach p body) b f.1 above (omega (arith, alone, o)),
                 fit.0,
                 fit.1,
-                sts_fit true (h + 2) (m + new_sites (key ∷ [])) (scope_behind scope (key ∷ [])) body (omega arith) (below_behind m scope scope (ints ∷ []) (key ∷ []) a b f.1) f.2 (omega arith) (omega (arith, calls, alone, o)),
+                sts_fit true (h + 2) (lefts_after m (key ∷ [])) (scope_behind scope (key ∷ [])) body (let r = after_lefts p (first + n) scope m (ints ∷ []) (key ∷ []) f.1 in omega (arith, a, r)) (below_behind m scope scope (ints ∷ []) (key ∷ []) a b f.1) f.2 (omega arith) (omega (arith, calls, alone, o)),
               )
           st_fits looped h m scope (range (over_pointed x) key (new site) body) a b f k o = absurd f
           st_fits looped h m scope (range (over_pointed x) key (to q) body) a b f k o = absurd f
@@ -603,7 +604,7 @@ module _ (p : Program) (form : IsInForm p) (solid : (t : ℕ) → 0 < width (typ
                 wide,
                 ex_fits h scope (slice_of t) e b fit (omega arith) (omega (arith, o)),
                 slice_round_fits h scope m r key value (sts_reach p body) a b lefts (omega (arith, k)) (omega (arith, o)),
-                sts_fit true (h + 4) (m + new_sites ls) (scope_behind scope ls) body (omega arith) (below_behind m scope scope (ints ∷ r ∷ []) ls a b lefts) inner_fit (omega arith) (omega (arith, calls, o)),
+                sts_fit true (h + 4) (lefts_after m ls) (scope_behind scope ls) body (let after = after_lefts p (first + n) scope m (ints ∷ r ∷ []) ls lefts in omega (arith, a, after)) (below_behind m scope scope (ints ∷ r ∷ []) ls a b lefts) inner_fit (omega arith) (omega (arith, calls, o)),
               )
           st_fits looped h m scope break_stmt a b f k o = tt
           st_fits looped h m scope continue_stmt a b f k o = tt
@@ -616,7 +617,8 @@ module _ (p : Program) (form : IsInForm p) (solid : (t : ℕ) → 0 < width (typ
           sts_fit : (looped : Bool) (h m : ℕ) (scope : List ℕ) (ss : Sts) → first ≤ m → Below s n scope → StsFit p wanted (length named) looped scope m (first + n) ss → h + sts_need p named ss ≤ temps → sts_reach p ss ≤ outgoing → StsFitIn p s n (all_width wanted) named h ss
           sts_fit looped h m scope done a b f k o = tt
           sts_fit looped h m scope (next x xs) a b f k o =
-              (st_fits looped h m scope x a b f.0 (omega arith) (omega arith), sts_fit looped h (m + births x) (scope_after scope x) xs (omega arith) (below_after looped m scope x a b f.0) f.1 (omega arith) (omega arith))
+              let after = after_one p (first + n) wanted (length named) looped scope m x f.0 in
+              (st_fits looped h m scope x a b f.0 (omega arith) (omega arith), sts_fit looped h (declared_after m x) (scope_after scope x) xs (omega (arith, a, after)) (below_after looped m scope x a b f.0) f.1 (omega arith) (omega arith))
 
 -- parameters and results with names are sites of the frame
 params_fit : (p : Program) (pl : Placement) (f : Func) (m : ℕ) (ts : List TypeTree) (ps : List (Option ℕ)) → entry_need pl ps ts ≤ temps_of p pl f → f.first ≤ m → m + named_params ps ≤ f.first + f.count → ParamsFit p m ts ps
@@ -629,13 +631,14 @@ params_fit p pl f m (t ∷ ts) (Some site ∷ ps) k a b fit =
     let from : f.first ≤ site = (let e = fit.0 in omega (arith, e)) in
     let behind : site < f.first + f.count = (let e = fit.0 in omega (arith, e)) in
     let apart : pl.on_heap site ≡ true → width t ≤ temps_of p pl f = λ is. (let w = ap (λ (heap : Bool). if heap then width t else 0) is in omega (arith, w, k)) in
-    ((from, behind), (ap width fit.1, apart), params_fit p pl f (suc m) ts ps (omega (arith, k)) (omega arith) (omega arith) fit.2)
+    ((from, behind, fit.1), (ap width fit.2, apart), params_fit p pl f (suc m) ts ps (omega (arith, k)) (omega arith) (omega arith) fit.3)
 
-named_fit : (p : Program) (s : Slots) (n m : ℕ) (sites : List ℕ) → s.first ≤ m → m + length sites ≤ s.first + n → NamedFit p m sites → SitesFit s n sites
-named_fit p s n m [] a l f = tt
-named_fit p s n m (site ∷ sites) a l f =
+named_fit : (p : Program) (s : Slots) → s.made ≡ p.made → (n m : ℕ) (sites : List ℕ) → s.first ≤ m → m + length sites ≤ s.first + n → NamedFit p m sites → SitesFit s n sites
+named_fit p s same n m [] a l f = tt
+named_fit p s same n m (site ∷ sites) a l f =
     let from : s.first ≤ site = (let e = f.0 in omega (arith, e)) in
-    let behind : site < s.first + n = (let e = f.0 in omega (arith, e)) in ((from, behind), named_fit p s n (suc m) sites (omega arith) (omega arith) f.1)
+    let behind : site < s.first + n = (let e = f.0 in omega (arith, e)) in
+    ((from, behind, ap (λ (made : List Bool). get_or made site false) same ∙ f.1), named_fit p s same n (suc m) sites (omega arith) (omega arith) f.2)
 
 below_params : (s : Slots) (n : ℕ) (scope ns : List ℕ) (ps : List (Option ℕ)) → Below s n scope → ParamsFitIn s n ns ps → Below s n (params_scope scope ps)
 below_params s n scope ns [] b f = b
@@ -653,7 +656,7 @@ pub func_fits : (p : Program) (pl : Placement) (f : Func) → IsInForm p → ((t
 func_fits p pl f form solid fit =
     let s = slots_of p pl f in
     let params = params_fit p pl f f.first f.param_types f.params (omega arith) (omega arith) (omega (arith, fit.count)) fit.params in
-    let named = named_fit p s f.count (f.first + named_params f.params) f.named (omega arith) (omega (arith, fit.count)) fit.named in
+    let named = named_fit p s refl f.count (f.first + named_params f.params) f.named (omega arith) (omega (arith, fit.count)) fit.named in
     let scope = below_with s f.count (params_scope [] f.params) f.named (below_params s f.count [] (each_width f.param_types) f.params (λ v i. absurd i) params) named in
     let names = names_are p pl f fit in
     record {

@@ -22,7 +22,7 @@ use Rattle.frame_layout.specs.declared.layout.FrameLayout.{FrameLayout}
 use Rattle.frame_layout.specs.Layout.{layout_in, layouts}
 use Rattle.frames.specs.Placement.{Placement}
 use Rattle.frames.specs.Frames.{outgoing_of, temps_of, frame_of}
-use Rattle.expression_code.specs.Frame.{func_in, globals_in, sites_in, types_in}
+use Rattle.expression_code.specs.Frame.{func_in, globals_in, made_in, sites_in, types_in}
 use Rattle.expression_code.proofs.PackageVariables.{globals_are}
 use Rattle.codegen.specs.Temps.{FuncFitsIn}
 use Rattle.program_code.specs.Code.{Slots, slots_of, params_code, zeros_code, sts_code, leave_code, entry_size, func_code, func_size, entry_of, funcs_code, funcs_owners, funcs_entries, code_of}
@@ -62,10 +62,10 @@ func_emitted p pl f s old c1 c2 c3 c4 same e1 e2 e3 e4 =
 
 -- the slots of a frame that is laid out for a function
 pub slots_are : (p : ProgramData) (pl : Placement) (f : FuncData) (layout : FrameLayout) (s : Slots) → layout ≡ layout_in (program_of p) pl (func_in p f)
-    → s ≡ record { outgoing = layout.outgoing; temps = layout.temps; first = f.first_site; count = f.sites; placement = pl; types = types_in p; sites = sites_in p; globals = globals_in p } → s ≡ slots_of (program_of p) pl (func_in p f)
+    → s ≡ record { outgoing = layout.outgoing; temps = layout.temps; first = f.first_site; count = f.sites; placement = pl; types = types_in p; sites = sites_in p; made = made_in p; globals = globals_in p } → s ≡ slots_of (program_of p) pl (func_in p f)
 slots_are p pl f layout s laid is =
-    is ∙ ap (λ (l : FrameLayout). let r : Slots = record { outgoing = l.outgoing; temps = l.temps; first = f.first_site; count = f.sites; placement = pl; types = types_in p; sites = sites_in p; globals = globals_in p } in r) laid
-    ∙ ap (λ (gs : List ℕ). let r : Slots = record { outgoing = outgoing_of (program_of p) (func_in p f); temps = temps_of (program_of p) pl (func_in p f); first = f.first_site; count = f.sites; placement = pl; types = types_in p; sites = sites_in p; globals = gs } in r) (globals_are p)
+    is ∙ ap (λ (l : FrameLayout). let r : Slots = record { outgoing = l.outgoing; temps = l.temps; first = f.first_site; count = f.sites; placement = pl; types = types_in p; sites = sites_in p; made = made_in p; globals = globals_in p } in r) laid
+    ∙ ap (λ (gs : List ℕ). let r : Slots = record { outgoing = outgoing_of (program_of p) (func_in p f); temps = temps_of (program_of p) pl (func_in p f); first = f.first_site; count = f.sites; placement = pl; types = types_in p; sites = sites_in p; made = made_in p; globals = gs } in r) (globals_are p)
 
 -- the entry of a function, by its parts
 pub entry_is : (p : Program) (pl : Placement) (f : Func) (frame arguments results start size at : ℕ) → frame ≡ frame_of p pl f → arguments ≡ argument_words f → results ≡ result_words f → start ≡ at → size ≡ func_size p pl f

@@ -1,8 +1,8 @@
 -- Strings that there are, and `break` and `continue` inside loops alone.
-use Rattle.std.specs.Prelude.{◌≡◌, ℕ, ◌+◌, ◌<◌, ⊤, Bool, true, false, List, [], ◌∷◌, length}
+use Rattle.std.specs.Prelude.{◌≡◌, ℕ, suc, ◌<◌, ⊤, Bool, true, false, List, [], ◌∷◌, length}
 use Rattle.typed_syntax.specs.Types.{TypeTree}
 use Rattle.typed_syntax.specs.Syntax.{Piece, St, Sts, Program, blank, new, to, text, shown, over_int, over_length, over_copy, over_slice, over_pointer, over_pointed, declare, assign, update, bump, discard, block, if_stmt, for_stmt, range, break_stmt, continue_stmt, return_stmt, print, panic, exit, done, next}
-use Rattle.typed_syntax.specs.Form.{births, births_all, new_sites, scope_behind, scope_after, PieceFits, PiecesFit, StFits, StsFit}
+use Rattle.typed_syntax.specs.Form.{lefts_after, declared_after, all_sites_after, scope_behind, scope_after, PieceFits, PiecesFit, StFits, StsFit}
 
 abbrev pub PieceWithin : (strings : ℕ) → Piece → Type 0
 PieceWithin strings (text number) = number < strings
@@ -53,21 +53,21 @@ module _ (p : Program) (wanted : List TypeTree) (named : ℕ) where
     st_within looped scope m n (bump at q op) f = tt
     st_within looped scope m n (discard es) f = tt
     st_within looped scope m n (block ss) f = sts_within looped scope m n ss f
-    st_within looped scope m n (if_stmt e a b) f = (sts_within looped scope m n a f.1, sts_within looped scope (m + births_all a) n b f.2)
-    st_within looped scope m n (for_stmt sites test post body) f = (sts_within false scope m n post f.2, sts_within true scope (m + births_all post) n body f.3)
-    st_within looped scope m n (range (over_int e) key blank body) f = sts_within true (scope_behind scope (key ∷ [])) (m + new_sites (key ∷ [])) n body f.2
+    st_within looped scope m n (if_stmt e a b) f = (sts_within looped scope m n a f.1, sts_within looped scope (all_sites_after m a) n b f.2)
+    st_within looped scope m n (for_stmt sites test post body) f = (sts_within false scope m n post f.2, sts_within true scope (all_sites_after m post) n body f.3)
+    st_within looped scope m n (range (over_int e) key blank body) f = sts_within true (scope_behind scope (key ∷ [])) (lefts_after m (key ∷ [])) n body f.2
     st_within looped scope m n (range (over_int e) key (new site) body) f = absurd f
     st_within looped scope m n (range (over_int e) key (to q) body) f = absurd f
-    st_within looped scope m n (range (over_length x) key blank body) f = sts_within true (scope_behind scope (key ∷ [])) (m + new_sites (key ∷ [])) n body f.2
+    st_within looped scope m n (range (over_length x) key blank body) f = sts_within true (scope_behind scope (key ∷ [])) (lefts_after m (key ∷ [])) n body f.2
     st_within looped scope m n (range (over_length x) key (new site) body) f = absurd f
     st_within looped scope m n (range (over_length x) key (to q) body) f = absurd f
     st_within looped scope m n (range (over_copy site e x) key value body) f =
-        sts_within true (scope_behind (site ∷ scope) (key ∷ value ∷ [])) (m + new_sites (key ∷ value ∷ []) + 1) n body f.8
-    st_within looped scope m n (range (over_pointer at e x t) key value body) f = sts_within true (scope_behind scope (key ∷ value ∷ [])) (m + new_sites (key ∷ value ∷ [])) n body f.7
-    st_within looped scope m n (range (over_pointed x) key blank body) f = sts_within true (scope_behind scope (key ∷ [])) (m + new_sites (key ∷ [])) n body f.2
+        sts_within true (scope_behind (site ∷ scope) (key ∷ value ∷ [])) (suc site) n body f.7
+    st_within looped scope m n (range (over_pointer at e x t) key value body) f = sts_within true (scope_behind scope (key ∷ value ∷ [])) (lefts_after m (key ∷ value ∷ [])) n body f.7
+    st_within looped scope m n (range (over_pointed x) key blank body) f = sts_within true (scope_behind scope (key ∷ [])) (lefts_after m (key ∷ [])) n body f.2
     st_within looped scope m n (range (over_pointed x) key (new site) body) f = absurd f
     st_within looped scope m n (range (over_pointed x) key (to q) body) f = absurd f
-    st_within looped scope m n (range (over_slice e t) key value body) f = sts_within true (scope_behind scope (key ∷ value ∷ [])) (m + new_sites (key ∷ value ∷ [])) n body f.3
+    st_within looped scope m n (range (over_slice e t) key value body) f = sts_within true (scope_behind scope (key ∷ value ∷ [])) (lefts_after m (key ∷ value ∷ [])) n body f.3
     st_within looped scope m n break_stmt f = f
     st_within looped scope m n continue_stmt f = f
     st_within looped scope m n (return_stmt es) f = tt
@@ -77,4 +77,4 @@ module _ (p : Program) (wanted : List TypeTree) (named : ℕ) where
 
     pub sts_within : (looped : Bool) (scope : List ℕ) (m n : ℕ) (ss : Sts) → StsFit p wanted named looped scope m n ss → StsWithin (length p.strings) looped ss
     sts_within looped scope m n done f = tt
-    sts_within looped scope m n (next x xs) f = (st_within looped scope m n x f.0, sts_within looped (scope_after scope x) (m + births x) n xs f.1)
+    sts_within looped scope m n (next x xs) f = (st_within looped scope m n x f.0, sts_within looped (scope_after scope x) (declared_after m x) n xs f.1)

@@ -1,11 +1,11 @@
 -- A frame as data.
-use Rattle.std.specs.Prelude.{◌≡◌, ℕ, ◌+◌, ◌≤◌, List, [], ◌∷◌, map, get_or}
+use Rattle.std.specs.Prelude.{◌≡◌, ℕ, ◌+◌, ◌≤◌, Bool, List, [], ◌∷◌, map, get_or}
 use Rattle.heap_bump.specs.Words.{first_address}
 use Rattle.typed_syntax.specs.Types.{TypeTree, ints, width}
 use Rattle.typed_syntax.specs.Syntax.{Func}
 use Rattle.frames.specs.Frames.{cells_between, words_between}
 use Rattle.typed.specs.Trees.{trees}
-use Rattle.typed.specs.View.{func_of, program_of, site_types}
+use Rattle.typed.specs.View.{func_of, made_by_expressions, program_of, site_types}
 use Rattle.typed.specs.declared.program.Func.{Func as FuncData}
 use Rattle.typed.specs.declared.program.Program.{Program}
 use Rattle.placement.specs.Told.{placement_of}
@@ -13,12 +13,15 @@ use Rattle.frame_layout.specs.Layout.{starts}
 use Rattle.program_code.specs.Code.{Slots}
 use Rattle.expression_code.specs.declared.slots.Frame.{Frame}
 
--- the types by their numbers, those of the sites, the sites of the package variables, and a function
+-- the types by their numbers, those of the sites, whether expressions make their variables, the sites of the package variables, and a function
 abbrev pub types_in : Program → List TypeTree
 types_in p = trees p.types
 
 abbrev pub sites_in : Program → List TypeTree
 sites_in p = site_types (trees p.types) p.sites.items
+
+abbrev pub made_in : Program → List Bool
+made_in p = made_by_expressions p.sites.items
 
 unfoldable pub globals_in : Program → List ℕ
 globals_in p = map (λ g. g.0) (program_of p).globals
@@ -35,6 +38,7 @@ slots_in p f = record {
   placement = placement_of f.homes.placement;
   types = types_in p;
   sites = sites_in p;
+  made = made_in p;
   globals = globals_in p;
 }
 
@@ -51,8 +55,8 @@ abbrev pub global_addresses : Program → List ℕ
 global_addresses p = addresses (sites_in p) (globals_in p) first_address
 
 -- the cells of a frame, and the words of its sites
-abbrev pub cells_in : Frame → ℕ
-cells_in f = cells_between (placement_of f.homes.placement) f.first f.sites
+abbrev pub cells_in : Program → Frame → ℕ
+cells_in p f = cells_between (placement_of f.homes.placement) (made_in p) f.first f.sites
 
 abbrev pub words_in : Program → Frame → ℕ
 words_in p f = words_between (placement_of f.homes.placement) (sites_in p) f.first f.sites
@@ -61,9 +65,9 @@ words_in p f = words_between (placement_of f.homes.placement) (sites_in p) f.fir
 pub record KnowsPlaces (p : Program) (f : Frame) : Type 0 where
   pub types : AreSmall (types_in p)
   pub words : AreSmall (sites_in p)
-  pub sites : f.starts.items ≡ starts (placement_of f.homes.placement) (sites_in p) f.first 0 (cells_in f) f.sites
+  pub sites : f.starts.items ≡ starts (placement_of f.homes.placement) (made_in p) (sites_in p) f.first 0 (cells_in p f) f.sites
   pub globals : f.homes.globals.items ≡ global_addresses p
 
 -- its slots are numbers of 16 bits, and it knows the places of variables
 abbrev pub IsLaid : Program → Frame → Type 0
-IsLaid p f = (f.outgoing + f.temps + cells_in f + words_in p f ≤ 65535) × KnowsPlaces p f
+IsLaid p f = (f.outgoing + f.temps + cells_in p f + words_in p f ≤ 65535) × KnowsPlaces p f

@@ -1,13 +1,13 @@
 -- That the slots of a frame suffice for expressions and places.
-use Rattle.std.specs.Prelude.{ℕ, ◌+◌, ◌*◌, ◌<◌, ◌≤◌, Bool, true, false, length}
+use Rattle.std.specs.Prelude.{◌≡◌, ℕ, ◌+◌, ◌*◌, ◌<◌, ◌≤◌, Bool, true, false, length, get_or}
 use Rattle.typed_syntax.specs.Types.{TypeTree, width, part_type, part_offset}
 use Rattle.typed_syntax.specs.Syntax.{Ex, Exs, Pl, Steps, here, inner, at_index, Program, constant, read, unary, binary, logical_and, logical_or, call, part_of, literal, Elements, no_elements, element, nil, address_of, new_variable, literal_variable, slice_literal, make, append, append_slice, copy, slicing, array_slicing, len, cap, Bound, absent, bound, local, global, indirect, slice_element, none, more, results, read_int, arguments_of, results_of, type_named, wide, all_wide, value_widths, ascend, words_through, gap_behind}
 use Rattle.frames.specs.Frames.{far}
 use Rattle.program_code.specs.Code.{Slots, compared, element_words, site_words, place_above, root_type, steps_of, near_offset, near_words}
 
--- the site is among the n of a frame
+-- the site of a name is among the n of a frame: what an expression makes has no cell there
 abbrev pub SiteFits : Slots → (n site : ℕ) → Type 0
-SiteFits s n site = (s.first ≤ site) × (site < s.first + n)
+SiteFits s n site = (s.first ≤ site) × (site < s.first + n) × (get_or s.made site false ≡ false)
 
 -- the arrays with worked-out indices among the steps from values of a type have elements, no more than they have words
 abbrev pub IndicesFit : TypeTree → Steps → Type 0
@@ -51,7 +51,7 @@ module _ (p : Program) (s : Slots) (n : ℕ) where
     Fits h (literal m es) =
         let t = type_named p m in
         (0 < width t) × (h + width t ≤ s.temps) × ElementsFitIn h t (ascend es) es
-    Fits h (nil m) = (0 < width (type_named p m)) × (h + width (type_named p m) ≤ s.temps)
+    Fits h (nil t) = (0 < width t) × (h + width t ≤ s.temps)
     Fits h (address_of q) = (h < s.temps) × PlaceFits s n q × AddressFits s.temps (place_above q h) q × OperandsFit h q
     Fits h (new_variable site) = h < s.temps
     Fits h (literal_variable site e) = (0 < site_words s site) × (h + site_words s site < s.temps) × Fits h e

@@ -8,7 +8,7 @@ ghost use Rattle.placement.specs.Told.{placement_of};
 ghost use Rattle.program_code.specs.Code.{global_address, site_access, site_words as words_of_site};
 ghost use Rattle.expression_code.specs.Accesses.{access_of, Spans};
 ghost use Rattle.expression_code.specs.Temps.{SiteFits};
-ghost use Rattle.expression_code.specs.Frame.{AreSmall, IsLaid, global_addresses as addresses_of, globals_in, sites_in, slots_in, types_in};
+ghost use Rattle.expression_code.specs.Frame.{AreSmall, IsLaid, global_addresses as addresses_of, globals_in, made_in, sites_in, slots_in, types_in};
 
 use crate::access::Access;
 use base::{NoMemory, SiteId, TypeId};
@@ -74,11 +74,11 @@ impl Frame {
         homes: Homes,
     ) -> Result<Frame, NoMemory>
         requires globals { homes.globals.items ≡ addresses_of program.now }
-        requires words { layout.outgoing + layout.temps + cells_between (placement_of homes.placement) func.now.first_site func.now.sites
+        requires words { layout.outgoing + layout.temps + cells_between (placement_of homes.placement) (made_in program.now) func.now.first_site func.now.sites
             + words_between (placement_of homes.placement) (sites_in program.now) func.now.first_site func.now.sites ≤ 65535 }
         ensures laid { IfOk result (λ f. IsLaid program.now f) }
         ensures slots { IfOk result (λ f. slots_in program.now f
-            ≡ record { outgoing = layout.outgoing; temps = layout.temps; first = func.now.first_site; count = func.now.sites; placement = placement_of homes.placement; types = types_in program.now; sites = sites_in program.now; globals = globals_in program.now }) }
+            ≡ record { outgoing = layout.outgoing; temps = layout.temps; first = func.now.first_site; count = func.now.sites; placement = placement_of homes.placement; types = types_in program.now; sites = sites_in program.now; made = made_in program.now; globals = globals_in program.now }) }
         ensures sites { IfOk result (λ f. f.sites ≡ func.now.sites) }
         ensures homes { IfOk result (λ f. f.homes ≡ homes) }
     {

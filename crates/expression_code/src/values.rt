@@ -22,7 +22,7 @@ use crate::slots::Frame;
 use base::{FuncId, NoMemory, SiteId, TypeId};
 use frame_layout::{arguments_of, expr_words, results_of, row_words};
 use isa::{Instr, Sameness};
-use typed::{BinOp, Bound, Const, Element, Expr, Place, Program, Step, UnOp, Values};
+use typed::{BinOp, Bound, Const, Element, Expr, Place, Program, Step, UnOp, Values, nil_words};
 
 /// The instruction's operation.
 pub fn operation(op: BinOp) -> isa::BinOp
@@ -333,8 +333,8 @@ pub fn emit_expr(
                 emit_moved(code, program, frame, *id, es, h)?;
             }
         }
-        Expr::Nil(id) => {
-            put(code, zeros(program.types.width(*id) as u16, frame.temp(h)))?;
+        Expr::Nil(value_type) => {
+            put(code, zeros(nil_words(*value_type) as u16, frame.temp(h)))?;
         }
         Expr::AddressOf(place) => {
             emit_place(code, program, frame, place, h)?;

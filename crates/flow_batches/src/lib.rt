@@ -7,7 +7,8 @@
 //!
 //! So the batches are the strongly connected components of the graph whose edges are the calls, each after those that it
 //! leads to. One depth-first search finds them all in this order. A call counts wherever it stands in the text of a body: as
-//! a value, among the arguments of another call, or beside a value.
+//! a value, among the arguments of another call, or beside a value. Go's escape analysis takes its functions in such batches
+//! too (the comments of cmd/compile/internal/escape).
 //!
 //! `is_formed` tests what the analysis asks of a program: that the sites, targets and results in a function are its own, and
 //! that each function that is called is there. `is_standing` tests what the graph of the whole program asks beside: that a

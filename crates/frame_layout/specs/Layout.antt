@@ -1,5 +1,5 @@
 -- The words of each frame, and what a layout is refused for.
-use Rattle.std.specs.Prelude.{◌≡◌, ℕ, zero, suc, ◌+◌, nat_lt, if◌then◌else◌, List, [], ◌∷◌, Option, Some, None, map}
+use Rattle.std.specs.Prelude.{◌≡◌, ℕ, zero, suc, ◌+◌, nat_lt, if◌then◌else◌, Bool, List, [], ◌∷◌, Option, Some, None, map}
 use Rattle.base.specs.declared.pos.Pos.{Pos}
 use Rattle.base.specs.declared.ids.TypeId.{TypeId}
 use Rattle.typed_syntax.specs.Types.{TypeTree, ints}
@@ -22,9 +22,9 @@ type_or_ints p (Some id) = type_named p id.0
 abbrev pub start_at : Placement → (site cell word : ℕ) → ℕ
 start_at l site cell word = if l.on_heap site then cell else word
 
-abbrev pub starts : Placement → List TypeTree → (from cell word count : ℕ) → List ℕ
-starts l sites from cell word zero = []
-starts l sites from cell word (suc n) = start_at l from cell word ∷ starts l sites (suc from) (cell + cell_words l from) (word + stack_words l sites from) n
+abbrev pub starts : Placement → (made : List Bool) → (sites : List TypeTree) → (from cell word count : ℕ) → List ℕ
+starts l made sites from cell word zero = []
+starts l made sites from cell word (suc n) = start_at l from cell word ∷ starts l made sites (suc from) (cell + cell_words l made from) (word + stack_words l sites from) n
 
 abbrev pub layout_in : Program → Placement → Func → FrameLayout
 layout_in p l f = record { outgoing = outgoing_of p f; temps = temps_of p l f; frame = frame_of p l f }

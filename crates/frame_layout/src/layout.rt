@@ -73,7 +73,7 @@ fn frame_layout(
 {
     let outgoing = body_reach(program, &func.body)?;
     let temps = func_temps(program, placement, func)?;
-    let cells = cells_of(placement, func.first_site, func.sites);
+    let cells = cells_of(program, placement, func.first_site, func.sites);
     let sites = sites_words(program, placement, func.first_site, func.sites);
     let words = words_of(outgoing, temps, cells, sites)?;
     if words > LARGEST_FRAME {

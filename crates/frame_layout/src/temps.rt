@@ -13,7 +13,9 @@ use crate::words::{
 };
 use base::{NoMemory, SiteId, TypeId};
 use placement::Placement;
-use typed::{Bound, Element, Expr, Func, Left, Piece, Place, Program, Step, Stmt, Values};
+use typed::{
+    Bound, Element, Expr, Func, Left, Piece, Place, Program, Step, Stmt, Values, nil_words,
+};
 
 /// What a `range` over a number or a pointer keeps, it and the index; what one over an array keeps, the index; what one over a slice
 /// keeps, the header and the index; and the most that each counts with above them.
@@ -160,7 +162,7 @@ pub fn expr_temps(program: &Program, e: &Expr) -> Result<u64, NoMemory>
             let temps = elements_temps(program, *type_id, elements)?;
             Ok(temps.max(type_words(program, *type_id)))
         }
-        Expr::Nil(type_id) => Ok(type_words(program, *type_id)),
+        Expr::Nil(value_type) => Ok(u64::from(nil_words(*value_type))),
         Expr::AddressOf(place) => target_temps(program, place),
         Expr::New(_) => Ok(1),
         Expr::NewLiteral(_, a) => {

@@ -4,7 +4,7 @@ ghost use Rattle.std.specs.Prelude.{◌≡◌, ◌+◌, ◌-◌, ◌≤◌, ◌<
 ghost use Rattle.typed_syntax.specs.Types.{width, part_type};
 ghost use Rattle.typed_syntax.specs.Paths.{type_at};
 ghost use Rattle.frames.specs.Frames.{element_words as words_of_elements, cell_words, cells_between, stack_words as words_in_frame, widest as widest_of, words_between};
-ghost use Rattle.typed_syntax.specs.Syntax.{all_width, all_wide, arguments_of as arguments, global_site, path_of, place_type, place_width, results_of as results, site_type, site_width, type_in, type_named, wide};
+ghost use Rattle.typed_syntax.specs.Syntax.{all_width, all_wide, arguments_of as arguments, global_site, is_made, path_of, place_type, place_width, results_of as results, site_type, site_width, type_in, type_named, wide};
 ghost use Rattle.typed.specs.View.{ex_of, exs_of, exs_of_values, place_of, program_of, site_numbers, steps_of};
 ghost use Rattle.typed.specs.Trees.{trees};
 ghost use Rattle.placement.specs.Told.{placement_of};
@@ -13,7 +13,7 @@ ghost use Rattle.frame_layout.specs.Layout.{type_or_ints, start_at, starts as st
 use base::{FuncId, NoMemory, SiteId, TypeId};
 use placement::Placement;
 use std::alloc::Global;
-use typed::{Expr, Place, Program, Step, Values};
+use typed::{Expr, Place, Program, Step, Values, nil_words};
 
 /// The words of a value of a type.
 pub fn type_words(program: &Program, type_id: TypeId) -> u64
@@ -163,7 +163,8 @@ pub fn expr_words(program: &Program, e: &Expr) -> Result<u64, NoMemory>
         Expr::Part(type_id, index, _) => {
             Ok(type_words(program, program.types.part(*type_id, *index)))
         }
-        Expr::Literal(type_id, _) | Expr::Nil(type_id) => Ok(type_words(program, *type_id)),
+        Expr::Literal(type_id, _) => Ok(type_words(program, *type_id)),
+        Expr::Nil(value_type) => Ok(u64::from(nil_words(*value_type))),
         // A slice's address, length and capacity.
         Expr::SliceLiteral(_, _)
         | Expr::Make(_, _, _, _)
@@ -233,26 +234,41 @@ pub fn sites_words(program: &Program, placement: &Placement, first: u32, count: 
     words
 }
 
-/// The cells of a site, by its number: one where its variables live on the heap.
-fn cells_at(placement: &Placement, number: usize) -> u64
-    ensures is { result ≡ cell_words (placement_of placement.now) number }
+/// Whether an expression makes the variables of a site, by its number in the program's table: no name stands for them.
+fn is_made_at(program: &Program, number: usize) -> bool
+    ensures { result ≡ is_made (program_of program.now) number }
+{
+    match program.sites.get(number) {
+        Some(site) => site.kind.is_made(),
+        None => false,
+    }
+}
+
+/// The cells of a site, by its number: one where its variables live on the heap and have names.
+fn cells_at(program: &Program, placement: &Placement, number: usize) -> u64
+    ensures is { result ≡ cell_words (placement_of placement.now) (program_of program.now).made number }
     ensures few { result ≤ 1 }
 {
-    if placement.at(number) { 1 } else { 0 }
+    if placement.at(number) && !is_made_at(program, number) {
+        1
+    } else {
+        0
+    }
 }
 
 /// How many of `count` sites from `first` on have a cell.
-pub fn cells_of(placement: &Placement, first: u32, count: u32) -> u64
-    ensures { result ≡ cells_between (placement_of placement.now) first count }
+pub fn cells_of(program: &Program, placement: &Placement, first: u32, count: u32) -> u64
+    ensures { result ≡ cells_between (placement_of placement.now) (program_of program.now).made first count }
 {
     let mut cells: u64 = 0;
     for i in 0..count {
-        cells += cells_at(placement, first as usize + i as usize);
+        cells += cells_at(program, placement, first as usize + i as usize);
     }
     cells
 }
 
-/// Where a site starts, by its number: at its cell, if its variables live on the heap, and else at its words.
+/// Where a site starts, by its number: at its cell, if its variables live on the heap, and else at its words. One without a cell starts at the
+/// next one.
 fn start(placement: &Placement, number: usize, cell: u16, word: u16) -> u16
     ensures { result ≡ start_at (placement_of placement.now) number cell word }
 {
@@ -267,18 +283,18 @@ pub fn site_starts(
     first: u32,
     count: u32,
 ) -> Result<Vec<u16>, NoMemory>
-    requires { cells_between (placement_of placement.now) first count
+    requires { cells_between (placement_of placement.now) (program_of program.now).made first count
         + words_between (placement_of placement.now) (program_of program.now).sites first count ≤ 65535 }
-    ensures { IfOk result (λ starts. starts.items ≡ starts_of (placement_of placement.now)
-        (program_of program.now).sites first 0 (cells_between (placement_of placement.now) first count) count) }
+    ensures { IfOk result (λ starts. starts.items ≡ starts_of (placement_of placement.now) (program_of program.now).made
+        (program_of program.now).sites first 0 (cells_between (placement_of placement.now) (program_of program.now).made first count) count) }
 {
     let mut starts = Vec::new(alloc);
     let mut cell = 0;
-    let mut word = cells_of(placement, first, count) as u16;
+    let mut word = cells_of(program, placement, first, count) as u16;
     for i in 0..count {
         let number = first as usize + i as usize;
         starts.push(start(placement, number, cell, word))?;
-        cell += cells_at(placement, number) as u16;
+        cell += cells_at(program, placement, number) as u16;
         word += stack_words(program, placement, number) as u16;
     }
     Ok(starts)

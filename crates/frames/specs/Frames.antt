@@ -1,7 +1,7 @@
 -- The words of a frame, from its lowest address: the outgoing area, in which the arguments of a call stand and then its
 -- results; the temps that values are worked out in; a cell for each site whose variables live on the heap, which has the address of the
 -- newest one; the words of each other site; the link and the return place.
-use Rattle.std.specs.Prelude.{ℕ, zero, suc, ◌+◌, Bool, true, false, List, [], ◌∷◌, Option, Some, None, max, get_or, slice_get, if◌then◌else◌}
+use Rattle.std.specs.Prelude.{ℕ, zero, suc, ◌+◌, ◌&&◌, Bool, true, false, not, List, [], ◌∷◌, Option, Some, None, max, get_or, slice_get, if◌then◌else◌}
 use Rattle.frames.specs.Placement.{Placement}
 use Rattle.typed_syntax.specs.Types.{TypeTree, ints, width, part_type, part_offset}
 use Rattle.typed_syntax.specs.Value.{words}
@@ -31,21 +31,22 @@ abbrev pub lefts_far : List Left → ℕ
 lefts_far [] = 0
 lefts_far (l ∷ ls) = max (left_far l) (lefts_far ls)
 
--- the words of a site in a frame, beside its cell, and its cell
+-- the words of a site in a frame, beside its cell, and its cell; where an expression makes its variables no name asks for the newest one, so it
+-- has no cell
 abbrev pub stack_words : Placement → List TypeTree → (site : ℕ) → ℕ
 stack_words l sites site = if l.on_heap site then 0 else width (get_or sites site ints)
 
-abbrev pub cell_words : Placement → (site : ℕ) → ℕ
-cell_words l site = if l.on_heap site then 1 else 0
+abbrev pub cell_words : Placement → (made : List Bool) → (site : ℕ) → ℕ
+cell_words l made site = if l.on_heap site && not (get_or made site false) then 1 else 0
 
 -- those of `count` sites from one on
 abbrev pub words_between : Placement → List TypeTree → (from count : ℕ) → ℕ
 words_between l sites from zero = 0
 words_between l sites from (suc n) = stack_words l sites from + words_between l sites (suc from) n
 
-abbrev pub cells_between : Placement → (from count : ℕ) → ℕ
-cells_between l from zero = 0
-cells_between l from (suc n) = cell_words l from + cells_between l (suc from) n
+abbrev pub cells_between : Placement → (made : List Bool) → (from count : ℕ) → ℕ
+cells_between l made from zero = 0
+cells_between l made from (suc n) = cell_words l made from + cells_between l made (suc from) n
 
 -- words of values, and after them an address, if there is one
 abbrev pub behind_values : (values address : ℕ) → ℕ
@@ -65,7 +66,7 @@ module _ (p : Program) where
     need (call f es) = max (need_all es) (results_of p f)
     need (part_of n i e) = need e
     need (literal n es) = max (width (type_named p n)) (elements_need (type_named p n) (ascend es) es)
-    need (nil n) = width (type_named p n)
+    need (nil t) = width t
     need (address_of q) = max (place_need q (far q)) 1
     need (new_variable site) = 1
     need (literal_variable site e) = max (need e) (wide p e + 1)
@@ -135,7 +136,7 @@ module _ (p : Program) where
     reach (call f es) = max (reach_all es) (arguments_of p f + results_of p f)
     reach (part_of n i e) = reach e
     reach (literal n es) = elements_reach es
-    reach (nil n) = 0
+    reach (nil t) = 0
     reach (address_of q) = place_reach q 0
     reach (new_variable site) = 0
     reach (literal_variable site e) = reach e
@@ -322,7 +323,7 @@ module _ (p : Program) (l : Placement) where
   temps_of f = max (entry_need l f.params f.param_types) (max (widest p f.named) (sts_need p f.named f.body))
 
   abbrev pub frame_of : Func → ℕ
-  frame_of f = 2 + words_between l p.sites f.first f.count + cells_between l f.first f.count + temps_of f + outgoing_of p f
+  frame_of f = 2 + words_between l p.sites f.first f.count + cells_between l p.made f.first f.count + temps_of f + outgoing_of p f
 
   abbrev pub frame_in : Option Func → ℕ
   frame_in None = 0

@@ -116,7 +116,7 @@ module _ (around : Setting) (calls : Calls) (gc : GoodCalls calls) where
     good_ev (call f es) ws env k s h = good_evs es ws env _ s (λ vs w. gc.by f vs ws env _ s (λ rs w1. h _ w1) w)
     good_ev (part_of t i e) ws env k s h = good_ev e ws env _ s (λ v w. h _ w)
     good_ev (literal t es) ws env k s h = λ w. good_fill es _ ws env _ s (λ v w1. h v w1) w
-    good_ev (nil n) ws env k s h = λ w. h _ w
+    good_ev (nil t) ws env k s h = λ w. h _ w
     good_ev (address_of q) ws env k s h = good_aim q ws env _ s (λ a. good_settle ws env a _ s (λ spot w. h _ w))
     good_ev (new_variable site) ws env k s h = λ w. h _ _
     good_ev (literal_variable site e) ws env k s h = good_ev e ws env _ s (λ v w. h _ _)

@@ -19,6 +19,8 @@ mod graphs;
 #[cfg(test)]
 mod heap;
 #[cfg(test)]
+mod marked_sites;
+#[cfg(test)]
 mod run_limits;
 #[cfg(test)]
 mod scanner;

@@ -2,15 +2,16 @@
 
 ghost use Rattle.std.specs.Prelude.{◌<◌, length};
 
-use crate::sites::variable;
-use base::{FuncId, Pos, SiteId, TypeId, ValueType};
+use crate::sites::site;
+use base::{FuncId, Pos, SiteId, ValueType};
 use frame_layout::{FrameLayout, layout_of};
 use placement::coarse;
 use std::alloc::Global;
 use std::process::Abort;
 use std::test::Fail;
 use typed::{
-    Bound, Const, Expr, Func, INT, Left, Piece, Place, Program, Site, Stmt, TypeTable, Values,
+    Bound, Const, Expr, Func, INT, Left, Piece, Place, Program, Site, SiteKind, Stmt, TypeTable,
+    Values,
 };
 
 const AT: Pos = Pos {
@@ -19,8 +20,8 @@ const AT: Pos = Pos {
     col: 1,
 };
 
-/// The type []int, behind int and bool.
-const INTS: TypeId = TypeId(2);
+/// The type []int.
+const INTS: ValueType = ValueType::Slice(INT);
 
 const SEVEN: Expr = Expr::Constant(Const::Int(7));
 
@@ -99,16 +100,25 @@ fn add_followers(alloc: Global, funcs: &mut Vec<Func>) -> Result<(), Fail> {
 }
 
 fn sites(alloc: Global) -> Result<Vec<Site>, Fail> {
+    let kinds = [
+        SiteKind::New,
+        SiteKind::SliceLiteral,
+        SiteKind::SliceLiteral,
+        SiteKind::Append,
+        SiteKind::Make,
+        SiteKind::Variable,
+        SiteKind::Variable,
+    ];
     let mut sites = Vec::new(alloc);
-    for _ in 0..7 {
-        sites.push(variable(AT, INT))?;
+    for kind in kinds {
+        sites.push(site(AT, INT, kind))?;
     }
     Ok(sites)
 }
 
 fn program(alloc: Global) -> Result<Program, Fail> {
     let mut types = TypeTable::new(alloc, 0)?;
-    let _ = types.enter(ValueType::Slice(INT))?;
+    let _ = types.enter(INTS)?;
     let mut funcs = Vec::new(alloc);
     add_makers(alloc, &mut funcs)?;
     add_followers(alloc, &mut funcs)?;
@@ -146,6 +156,24 @@ fn check_frames(rt: &impl Abort, alloc: Global, program: &Program) -> Result<(),
     ];
     assert_eq!(rt; layouts.frames(), want.as_slice());
     Ok(())
+}
+
+// What `new` makes is on the heap: it has no words in the frame, and no name asks for its address, so it has no cell either. A variable
+// there has one.
+fn check_cells(rt: &impl Abort, alloc: Global, program: &Program) -> Result<(), Fail> {
+    let mut placement = coarse(alloc, program)?;
+    placement.put_on_heap(SiteId(0))?;
+    placement.put_on_heap(SiteId(5))?;
+    let layouts = layout_of(alloc, program, &placement)?;
+    assert_eq!(rt; layouts.frames().get(0), Some(&frame(1, 0)));
+    assert_eq!(rt; layouts.frames().get(4), Some(&frame(6, 2)));
+    Ok(())
+}
+
+#[test]
+fn made_variables_have_no_cell(rt: HostRuntime) -> Result<(), Fail> {
+    let program = program(rt.alloc())?;
+    check_cells(&rt, rt.alloc(), &program)
 }
 
 #[test]

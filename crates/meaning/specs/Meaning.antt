@@ -310,7 +310,7 @@ module _ (around : Setting) (calls : Calls) where
     ev (call f es) ws env k = evs es ws env (λ vs. turn (calls f vs ws env (λ rs. give ws (call f es) k (only_value rs))))
     ev (part_of n i e) ws env k = ev e ws env (λ v. turn (give ws (part_of n i e) k (part v i)))
     ev (literal n es) ws env k = turn (fill es (zero_value (type_in around.types n)) ws env (give ws (literal n es) k))
-    ev (nil n) ws env k = turn (give ws (nil n) k (zero_value (type_in around.types n)))
+    ev (nil t) ws env k = turn (give ws (nil t) k (zero_value t))
     ev (address_of p) ws env k = aim p ws env (λ a. settle ws env a (λ q. give ws (address_of p) k (pointer q.variable q.path)))
     ev (new_variable site) ws env k = turn (bear ws.call site (site_type around site) (zero_of around site) (λ x. give ws (new_variable site) k (pointer x [])))
     ev (literal_variable site e) ws env k = ev e ws env (λ v. turn (bear ws.call site (site_type around site) v (λ x. give ws (literal_variable site e) k (pointer x []))))

@@ -1,12 +1,12 @@
 -- Each program in form is well typed.
-use Rattle.std.proofs.Common.{◌≡◌, inl, inr, refl, sym, subst, ℕ, suc, ◌+◌, Bool, true, false, List, [], ◌∷◌, Option, Some, None}
+use Rattle.std.proofs.Common.{◌≡◌, inl, inr, refl, sym, subst, ℕ, suc, Bool, true, false, List, [], ◌∷◌, Option, Some, None}
 use Rattle.std.specs.Prelude.{slice_get, length}
 use Rattle.typed_syntax.specs.declared.operators.BinOp.{BinOp}
 use Rattle.typed_syntax.specs.declared.operators.BinOp.TheVariants.{Equal, NotEqual, Less, LessEqual, Greater, GreaterEqual}
 use Rattle.typed_syntax.specs.Types.{TypeTree, ints, part_type}
 use Rattle.typed_syntax.specs.Value.{Value, int, bool, IsOf, LeadsNowhere}
 use Rattle.typed_syntax.specs.Syntax.{Ex, Exs, Bound, absent, bound, Pl, Steps, Left, Piece, St, Sts, Func, Program, constant, read, unary, binary, logical_and, logical_or, call, part_of, literal, nil, address_of, new_variable, literal_variable, slice_literal, make, append, append_slice, copy, slicing, array_slicing, len, cap, Elements, no_elements, element, none, more, results, read_int, local, global, indirect, slice_element, here, inner, at_index, blank, new, to, text, shown, over_int, over_length, over_copy, over_slice, over_pointer, over_pointed, declare, assign, update, bump, discard, block, if_stmt, for_stmt, range, break_stmt, continue_stmt, return_stmt, print, panic, exit, done, next, type_named, site_type, global_type}
-use Rattle.typed_syntax.specs.Form.{IsWord, Takes, IsArithmetic, IsStep, births, births_all, new_sites, scope_behind, scope_after, PlFits, StepsLead, ExFits, BoundFits, AllFit, ElementsFit, ExsFit, LeftsFit, TestFits, PieceFits, PiecesFit, ReturnFits, StFits, StsFit, ParamsFit, FuncFits}
+use Rattle.typed_syntax.specs.Form.{IsWord, Takes, IsArithmetic, IsStep, declared_after, all_sites_after, lefts_after, scope_behind, scope_after, PlFits, StepsLead, ExFits, BoundFits, AllFit, ElementsFit, ExsFit, LeftsFit, TestFits, PieceFits, PiecesFit, ReturnFits, StFits, StsFit, ParamsFit, FuncFits}
 use Rattle.meaning_laws.specs.Rules.{Combines, AllAre, PlaceHas, StepsGo, Has, BoundHas, ElementsHave, Have, LeftsHave, TestHas, PieceHas, PiecesHave, ReturnHas, StatementIsTyped, StatementsAreTyped, ParamsHave, GlobalsHave, FunctionIsTyped}
 use Rattle.meaning_laws.specs.Typing.{FormIsWellTyped}
 
@@ -57,7 +57,7 @@ module _ (p : Program) where
     has (call f es) scope t b = (b.0, b.1, b.2, have es scope b.0.param_types b.3)
     has (part_of n i e) scope t b = (b.0, b.1, has e scope (type_named p n) b.3)
     has (literal n es) scope t b = (b.0, elements es scope t b.2)
-    has (nil n) scope t b = b.0
+    has (nil s) scope t b = b.0
     has (address_of q) scope t b = (b.0, b.1, place q scope (type_named p b.0) b.2)
     has (new_variable site) scope t b = (b.0, b.1, b.2)
     has (literal_variable site e) scope t b = ((b.0.0, b.0.1, b.0.2), has e scope (site_type p site) b.1)
@@ -100,7 +100,7 @@ module _ (p : Program) where
   lefts [] scope m n (t ∷ ts) b = absurd b
   lefts (l ∷ ls) scope m n [] b = absurd b
   lefts (blank ∷ ls) scope m n (t ∷ ts) b = (tt, lefts ls scope m n ts b)
-  lefts (new site ∷ ls) scope m n (t ∷ ts) b = (b.2, lefts ls scope (suc m) n ts b.3)
+  lefts (new site ∷ ls) scope m n (t ∷ ts) b = (b.1, lefts ls scope (suc site) n ts b.2)
   lefts (to q ∷ ls) scope m n (t ∷ ts) b = (place q scope t b.0, lefts ls scope m n ts b.1)
 
   test_has : (o : Option Ex) (scope : List ℕ) → TestFits p scope o → TestHas p scope o
@@ -134,25 +134,25 @@ module _ (p : Program) where
       runs (bump at q op) looped scope m n b = (step_counts op b.0, place q scope ints b.1)
       runs (discard es) looped scope m n b = (b.0, have es scope b.0 b.1)
       runs (block ss) looped scope m n b = all_run ss looped scope m n b
-      runs (if_stmt e s r) looped scope m n b = (has e scope _ b.0, all_run s looped scope m n b.1, all_run r looped scope (m + births_all s) n b.2)
-      runs (for_stmt sites test post body) looped scope m n b = (b.0, test_has test scope b.1, all_run post false scope m n b.2, all_run body true scope (m + births_all post) n b.3)
+      runs (if_stmt e s r) looped scope m n b = (has e scope _ b.0, all_run s looped scope m n b.1, all_run r looped scope (all_sites_after m s) n b.2)
+      runs (for_stmt sites test post body) looped scope m n b = (b.0, test_has test scope b.1, all_run post false scope m n b.2, all_run body true scope (all_sites_after m post) n b.3)
       runs (range (over_int e) key blank body) looped scope m n b =
-          (ints, (refl, has e scope ints b.0), (lefts (key ∷ []) scope m n (ints ∷ []) b.1).0, tt, behind body scope key (all_run body true (scope_behind scope (key ∷ [])) (m + new_sites (key ∷ [])) n b.2))
+          (ints, (refl, has e scope ints b.0), (lefts (key ∷ []) scope m n (ints ∷ []) b.1).0, tt, behind body scope key (all_run body true (scope_behind scope (key ∷ [])) (lefts_after m (key ∷ [])) n b.2))
       runs (range (over_int e) key value body) looped scope m n b = absurd b
       runs (range (over_length x) key blank body) looped scope m n b =
-          (ints, refl, (lefts (key ∷ []) scope m n (ints ∷ []) b.1).0, tt, behind body scope key (all_run body true (scope_behind scope (key ∷ [])) (m + new_sites (key ∷ [])) n b.2))
+          (ints, refl, (lefts (key ∷ []) scope m n (ints ∷ []) b.1).0, tt, behind body scope key (all_run body true (scope_behind scope (key ∷ [])) (lefts_after m (key ∷ [])) n b.2))
       runs (range (over_length x) key value body) looped scope m n b = absurd b
       runs (range (over_copy site e x) key value body) looped scope m n b =
-          let l = lefts (key ∷ value ∷ []) (site ∷ scope) m n (ints ∷ b.0 ∷ []) b.7 in
-          (b.0, (b.1, has e scope _ b.6), l.0, l.1.0, all_run body true (scope_behind (site ∷ scope) (key ∷ value ∷ [])) (m + new_sites (key ∷ value ∷ []) + 1) n b.8)
+          let l = lefts (key ∷ value ∷ []) (site ∷ scope) m n (ints ∷ b.0 ∷ []) b.6 in
+          (b.0, (b.1, has e scope _ b.5), l.0, l.1.0, all_run body true (scope_behind (site ∷ scope) (key ∷ value ∷ [])) (suc site) n b.7)
       runs (range (over_slice e t) key value body) looped scope m n b =
           let l = lefts (key ∷ value ∷ []) scope m n (ints ∷ type_named p t ∷ []) b.2 in
-          (type_named p t, (refl, has e scope _ b.1), l.0, l.1.0, all_run body true (scope_behind scope (key ∷ value ∷ [])) (m + new_sites (key ∷ value ∷ [])) n b.3)
+          (type_named p t, (refl, has e scope _ b.1), l.0, l.1.0, all_run body true (scope_behind scope (key ∷ value ∷ [])) (lefts_after m (key ∷ value ∷ [])) n b.3)
       runs (range (over_pointer at e x t) key value body) looped scope m n b =
           let l = lefts (key ∷ value ∷ []) scope m n (ints ∷ type_named p t ∷ []) b.6 in
-          (type_named p t, (refl, (b.0, b.1, has e scope _ b.5)), l.0, l.1.0, all_run body true (scope_behind scope (key ∷ value ∷ [])) (m + new_sites (key ∷ value ∷ [])) n b.7)
+          (type_named p t, (refl, (b.0, b.1, has e scope _ b.5)), l.0, l.1.0, all_run body true (scope_behind scope (key ∷ value ∷ [])) (lefts_after m (key ∷ value ∷ [])) n b.7)
       runs (range (over_pointed x) key blank body) looped scope m n b =
-          (ints, refl, (lefts (key ∷ []) scope m n (ints ∷ []) b.1).0, tt, behind body scope key (all_run body true (scope_behind scope (key ∷ [])) (m + new_sites (key ∷ [])) n b.2))
+          (ints, refl, (lefts (key ∷ []) scope m n (ints ∷ []) b.1).0, tt, behind body scope key (all_run body true (scope_behind scope (key ∷ [])) (lefts_after m (key ∷ [])) n b.2))
       runs (range (over_pointed x) key value body) looped scope m n b = absurd b
       runs break_stmt looped scope m n b = b
       runs continue_stmt looped scope m n b = b
@@ -163,14 +163,14 @@ module _ (p : Program) where
 
       all_run : (ss : Sts) (looped : Bool) (scope : List ℕ) (m n : ℕ) → StsFit p wanted named looped scope m n ss → StatementsAreTyped p wanted named looped scope ss
       all_run done looped scope m n b = tt
-      all_run (next st ss) looped scope m n b = (runs st looped scope m n b.0, all_run ss looped (scope_after scope st) (m + births st) n b.1)
+      all_run (next st ss) looped scope m n b = (runs st looped scope m n b.0, all_run ss looped (scope_after scope st) (declared_after m st) n b.1)
 
   params : (ps : List (Option ℕ)) (m : ℕ) (ts : List TypeTree) → ParamsFit p m ts ps → ParamsHave p ts ps
   params [] m [] b = tt
   params [] m (t ∷ ts) b = absurd b
   params (o ∷ ps) m [] b = absurd b
   params (None ∷ ps) m (t ∷ ts) b = params ps m ts b
-  params (Some site ∷ ps) m (t ∷ ts) b = (b.1, params ps (suc m) ts b.2)
+  params (Some site ∷ ps) m (t ∷ ts) b = (b.2, params ps (suc m) ts b.3)
 
   no_params : (ts : List TypeTree) (m : ℕ) → ParamsFit p m ts [] → ts ≡ []
   no_params [] m b = refl

@@ -125,7 +125,7 @@ module _ (F : Family) where
       ev_holds (call f es) p env k j h w = evs_hold es p env _ _ (λ vs. call_holds p f vs env _ _ (λ rs u. seeing F (h _ u))) w
       ev_holds (part_of number i e) p env k j h w = ev_holds e p env _ _ (λ v u. turning F (seeing F (h _ u))) w
       ev_holds (literal number es) p env k j h w = turning F (fill_holds es _ p env _ _ (λ v u. seeing F (h v u)) w)
-      ev_holds (nil number) p env k j h w = turning F (seeing F (h _ w))
+      ev_holds (nil t) p env k j h w = turning F (seeing F (h _ w))
       ev_holds (address_of q) p env k j h w = aim_holds q p env _ _ (λ a. settle_holds a p env _ _ (λ s u. seeing F (h _ u))) w
       ev_holds (new_variable site) p env k j h w = let e = new_variable site in
           turning F (born_here around p site (Meaning.zero_of around site) (λ x. Meaning.give p.left e k (pointer x [])) (λ x. Meaning.give p.right e j (pointer x [])) (λ x. give_holds p.left p.right e k j h (pointer x [])) w)

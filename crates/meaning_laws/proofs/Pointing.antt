@@ -295,7 +295,7 @@ module _ (around : Setting) (count : ℕ) (calls : Calls) (gc : GoodCalls count 
         good_evs es ws env _ b g v (λ vs u d n. gc.by f vs ws env _ (ways_at ws g d) (env_at env v d) n (λ rs y c p. good_give ws (call f es) k g h (Meaning.only_value rs) y (down d c) (only_named rs (limit y) p)) u (sound_here u d)) w s
     good_ev (part_of t i e) ws env k b g v h w s = good_ev e ws env _ b g v (λ x u d n. good_give ws (part_of t i e) k g h _ u d (part_named x i (limit u) n)) w s
     good_ev (literal t es) {m} ws env k b g v h w s = good_fill es _ ws env _ b g v (zero_named (type_in around.types t) m) (good_give ws (literal t es) k g h) w s
-    good_ev (nil t) ws env k b g v h w s = good_give ws (nil t) k g h _ w s (zero_named (type_in around.types t) (limit w))
+    good_ev (nil t) ws env k b g v h w s = good_give ws (nil t) k g h _ w s (zero_named t (limit w))
     good_ev (address_of q) ws env k b g v h w s =
         good_aim q ws env _ b g v (λ a u d n. good_settle a ws env _ (ways_at ws g d) n (λ p y c l. good_give ws (address_of q) k g h (pointer p.variable p.path) y (down d c) l) u (sound_here u d)) w s
     good_ev (new_variable site) {m} ws env k b g v h w s =

@@ -474,7 +474,7 @@ module _ (p : Program) where
           good_ev e scope (type_named p ty) ws env _ b.2 g v (λ x u c n. good_give ws scope t (part_of ty i e) k b g h _ u c (of_type (vars_of u) (part_type (type_named p ty) i) t _ b.1 (part_typed p (vars_of u) (type_named p ty) x i n b.0))) w d
       good_ev (literal ty es) {m} scope t ws env k b g v h w d =
           good_fill es scope t _ ws env _ b.1 g v (of_type m (type_named p ty) t _ b.0 (zero_typed p m (type_named p ty))) (good_give ws scope t (literal ty es) k b g h) w d
-      good_ev (nil ty) scope t ws env k b g v h w d = good_give ws scope t (nil ty) k b g h _ w d (of_type (vars_of w) (type_named p ty) t _ b (zero_typed p (vars_of w) (type_named p ty)))
+      good_ev (nil ty) scope t ws env k b g v h w d = good_give ws scope t (nil ty) k b g h _ w d (of_type (vars_of w) ty t _ b (zero_typed p (vars_of w) ty))
       good_ev (address_of q) scope t ws env k b g v h w d =
           good_aim q scope (type_named p b.0) ws env _ b.2 g v (λ a u c n. good_settle a (type_named p b.0) ws env _ (ways_at ws g c) n
           (λ o y f l. good_give ws scope t (address_of q) k b g h (pointer o.variable o.path) y (down c f) (as_type (vars_of y) t (pointer_to b.0) (pointer o.variable o.path) b.1 l)) u (sound_here p u c)) w d

@@ -57,7 +57,7 @@ module _ (p : Program) where
     Has scope t (call f es) = (func : Func) × (slice_get p.funcs f ≡ Some func) × (func.results ≡ t ∷ []) × Have scope func.param_types es
     Has scope t (part_of n i e) = (i < part_count (type_named p n)) × (part_type (type_named p n) i ≡ t) × Has scope (type_named p n) e
     Has scope t (literal n es) = (type_named p n ≡ t) × ElementsHave scope t es
-    Has scope t (nil n) = type_named p n ≡ t
+    Has scope t (nil s) = s ≡ t
     Has scope t (address_of q) = (n : ℕ) × (t ≡ pointer_to n) × PlaceHas scope (type_named p n) q
     Has scope t (new_variable site) = PointsTo t site
     Has scope t (literal_variable site e) = PointsTo t site × Has scope (site_type p site) e

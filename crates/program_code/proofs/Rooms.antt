@@ -11,7 +11,7 @@ lefts_length p scope m e [] [] f = refl
 lefts_length p scope m e [] (l ∷ ls) f = absurd f
 lefts_length p scope m e (t ∷ ts) [] f = absurd f
 lefts_length p scope m e (t ∷ ts) (blank ∷ ls) f = ap suc (lefts_length p scope m e ts ls f)
-lefts_length p scope m e (t ∷ ts) (new site ∷ ls) f = ap suc (lefts_length p scope (suc m) e ts ls f.3)
+lefts_length p scope m e (t ∷ ts) (new site ∷ ls) f = ap suc (lefts_length p scope (suc site) e ts ls f.2)
 lefts_length p scope m e (t ∷ ts) (to q ∷ ls) f = ap suc (lefts_length p scope m e ts ls f.1)
 
 -- an address after values has a temp

@@ -200,7 +200,7 @@ module _ (fs : Program) where
         let t = type_named fs n in
         omega (arith, length_last (ex_code fs s e h pc) (Move Silent (temp s h) (temp s (h + part_offset t i)) (width (part_type t i))), length_code s e h pc)
     length_code s (literal n es) h pc = omega (arith, length_elements s (type_named fs n) (ascend es) es h (pc + 1))
-    length_code s (nil n) h pc = refl
+    length_code s (nil t) h pc = refl
     length_code s (address_of p) h pc =
         omega (arith, length-append (place_code fs s p h pc) (pointing_code s p (place_above p h) h), length_place s p h pc, length_pointing s p (place_above p h) h, place_sum p (address_size p + 1))
     length_code s (new_variable site) h pc = refl

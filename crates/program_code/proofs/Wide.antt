@@ -32,7 +32,7 @@ nilable_some t is = absurd is
 
 module _ (p : Program) (scope : List ℕ) where
   nil_some : (s : TypeTree) (e : Ex) → IsNil e → ExFits p scope s e → 0 < width s
-  nil_some s (nil n) is fit = nilable_some s fit.1
+  nil_some s (nil t) is fit = nilable_some s fit.1
   nil_some s e is fit = absurd is
 
   compared_some : (s : TypeTree) (a b : Ex) → AreCompared s a b → ExFits p scope s a → ExFits p scope s b → 0 < width s
@@ -113,7 +113,7 @@ module _ (p : Program) where
   wide_is scope t (call f es) fit = ap results_in fit.1 ∙ one_of fit.0.results t fit.2
   wide_is scope t (part_of n i e) fit = ap width fit.1
   wide_is scope t (literal n es) fit = ap width fit.0
-  wide_is scope t (nil n) fit = ap width fit.0
+  wide_is scope t (nil s) fit = ap width fit.0
   wide_is scope t (address_of q) fit = sym (ap width fit.1)
   wide_is scope t (new_variable site) fit = sym (ap width fit.1)
   wide_is scope t (literal_variable site e) fit = sym (ap width fit.0.1)

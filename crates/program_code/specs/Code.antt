@@ -56,7 +56,7 @@ differ_code n a b = Same Wanted.Different a a b n
 
 -- how many words of two operands are compared; of a slice and `nil` it is the first, an address
 abbrev pub is_nil : Ex → Bool
-is_nil (nil n) = true
+is_nil (nil t) = true
 is_nil e = false
 
 abbrev pub compared : Program → Ex → Ex → ℕ
@@ -81,8 +81,8 @@ word_of (bool b) = bit_of b
 word_of v = 0
 
 -- The slots of a frame, from its lowest word: the outgoing area, the temps, of `count` sites from this one on the cells of those whose
--- variables live on the heap and then the others, each with the words of its type; above them the link and the return place. The
--- package variables, by their sites, stand in the heap. The program's types go by their numbers.
+-- variables live on the heap (but for what expressions make) and then the others, each with the words of its type; above them the link and
+-- the return place. The package variables, by their sites, stand in the heap. The program's types go by their numbers.
 pub record Slots : Type 0 where
   pub outgoing : ℕ
   pub temps : ℕ
@@ -91,6 +91,7 @@ pub record Slots : Type 0 where
   pub placement : Placement
   pub types : List TypeTree
   pub sites : List TypeTree
+  pub made : List Bool
   pub globals : List ℕ
 
 abbrev pub temp : Slots → ℕ → ℕ
@@ -98,10 +99,10 @@ temp s h = s.outgoing + h
 
 -- the cell of a site, and the first slot of one whose variables live in the frame
 abbrev pub cell_slot : Slots → ℕ → ℕ
-cell_slot s site = s.outgoing + s.temps + cells_between s.placement s.first (site - s.first)
+cell_slot s site = s.outgoing + s.temps + cells_between s.placement s.made s.first (site - s.first)
 
 abbrev pub site_slot : Slots → ℕ → ℕ
-site_slot s site = s.outgoing + s.temps + cells_between s.placement s.first s.count + words_between s.placement s.sites s.first (site - s.first)
+site_slot s site = s.outgoing + s.temps + cells_between s.placement s.made s.first s.count + words_between s.placement s.sites s.first (site - s.first)
 
 abbrev pub site_type : Slots → ℕ → TypeTree
 site_type s site = get_or s.sites site ints
@@ -543,7 +544,7 @@ module _ (p : Program) where
     size (call f es) = exs_size es + call_size f
     size (part_of n i e) = size e + 1
     size (literal n es) = 1 + elements_size (type_named p n) (ascend es) es
-    size (nil n) = 1
+    size (nil t) = 1
     size (address_of q) = place_size q (address_size q + 1)
     size (new_variable site) = 1
     size (literal_variable site e) = size e + 3
@@ -642,7 +643,7 @@ module _ (p : Program) where
     ex_code s (call f es) h pc = exs_code s es h pc ++ call_code s f h
     ex_code s (part_of n i e) h pc = ex_code s e h pc ++ Move Silent (temp s h) (temp s (h + part_offset (type_named p n) i)) (width (part_type (type_named p n) i)) ∷ []
     ex_code s (literal n es) h pc = zeros (width (type_named p n)) (temp s h) ∷ elements_code s (type_named p n) (ascend es) es h (pc + 1)
-    ex_code s (nil n) h pc = zeros (width (type_named p n)) (temp s h) ∷ []
+    ex_code s (nil t) h pc = zeros (width t) (temp s h) ∷ []
     ex_code s (address_of q) h pc = place_code s q h pc ++ pointing_code s q (place_above q h) h
     ex_code s (new_variable site) h pc = Alloc (temp s h) (site_words s site) site ∷ []
     -- the literal is whole before its variable is born
@@ -900,6 +901,7 @@ module _ (p : Program) (l : Placement) where
     placement = l;
     types = p.types;
     sites = p.sites;
+    made = p.made;
     globals = map (λ g. g.0) p.globals;
   }
 

@@ -12,6 +12,7 @@ use Rattle.syntax.specs.declared.expression.Name.{Name}
 use Rattle.syntax.specs.Expressions.{spelled}
 use Rattle.typed.specs.declared.program.Site.{Site}
 use Rattle.typed.specs.Tables.{Table}
+use Rattle.typed.specs.View.{is_made_kind}
 use Rattle.names.specs.Blocks.{Names, Blocks, with_entry, insert}
 use Rattle.names.specs.declared.settings.Setting.{Setting}
 use Rattle.names.specs.declared.scope.Declared.{Declared}
@@ -47,6 +48,10 @@ pub record Package : Type 0 where
 abbrev pub package_of : Scope → Package
 package_of s = record { signatures = s.signatures; values = s.values; globals = s.globals; types = s.types; fields = s.fields }
 
+-- new sites are of declared variables, which no expression makes
+abbrev pub IsDeclaring : Setting → Type 0
+IsDeclaring x = is_made_kind x.kind ≡ false
+
 -- the numbers of the names in a block, and in the innermost one, are not below one
 abbrev pub EntriesAbove : ℕ → Names → Type 0
 EntriesAbove n [] = Unit {0}
@@ -65,6 +70,7 @@ pub record Grows (s r : Scope) : Type 0 where
   pub sites : Extends s.sites r.sites
   pub kept : package_of r ≡ package_of s
   pub strings : length s.strings ≤ length r.strings
+  pub kinds : IsDeclaring s.setting → IsDeclaring r.setting
 
 -- the same blocks, and more declarations
 pub record Keeps (s r : Scope) : Type 0 where
@@ -73,12 +79,16 @@ pub record Keeps (s r : Scope) : Type 0 where
   pub sites : Extends s.sites r.sites
   pub kept : package_of r ≡ package_of s
   pub strings : length s.strings ≤ length r.strings
+  pub kinds : IsDeclaring s.setting → IsDeclaring r.setting
 
 pub extends_none : (a : List Site) → Extends a a
 extends_none a = ([], sym (append-nil a))
 
 pub extends_twice : (a b c : List Site) → Extends a b → Extends b c → Extends a c
 extends_twice a b c p q = (p.0 ++ q.0, q.1 ∙ ap (λ l. l ++ q.0) p.1 ∙ append_assoc a p.0 q.0)
+
+pub extends_length : (a b : List Site) → Extends a b → length a ≤ length b
+extends_length a b e = let whole = ap length e.1 ∙ length-append a e.0 in omega (arith, whole)
 
 pub longer_twice : (a b c : List Declared) → Longer a b → Longer b c → Longer a c
 longer_twice a b c p q = (p.0 ++ q.0, q.1 ∙ ap (λ l. l ++ q.0) p.1 ∙ append_assoc a p.0 q.0, all_both p.0 p.2)
@@ -95,7 +105,7 @@ pub grows_types : (s r : Scope) → Grows s r → r.types ≡ s.types
 grows_types s r g = ap (λ (q : Package). q.types) g.kept
 
 pub grows_none : (s : Scope) → Grows s s
-grows_none s = record { around = refl; depth = refl; newer = λ n le above. above; declared = ([], sym (append-nil s.declared), tt); sites = extends_none s.sites; kept = refl; strings = omega arith }
+grows_none s = record { around = refl; depth = refl; newer = λ n le above. above; declared = ([], sym (append-nil s.declared), tt); sites = extends_none s.sites; kept = refl; strings = omega arith; kinds = λ k. k }
 
 pub grows_twice : (a b c : Scope) → Grows a b → Grows b c → Grows a c
 grows_twice a b c p q = record {
@@ -106,6 +116,7 @@ grows_twice a b c p q = record {
   sites = extends_twice a.sites b.sites c.sites p.sites q.sites;
   kept = q.kept ∙ p.kept;
   strings = omega (arith, p.strings, q.strings);
+  kinds = λ k. q.kinds (p.kinds k);
 }
 
 pub keeps_twice : (a b c : Scope) → Keeps a b → Keeps b c → Keeps a c
@@ -115,30 +126,35 @@ keeps_twice a b c p q = record {
   sites = extends_twice a.sites b.sites c.sites p.sites q.sites;
   kept = q.kept ∙ p.kept;
   strings = omega (arith, p.strings, q.strings);
+  kinds = λ k. q.kinds (p.kinds k);
 }
 
 pub keeps_none : (s : Scope) → Keeps s s
-keeps_none s = record { blocks = refl; declared = ([], sym (append-nil s.declared), tt); sites = extends_none s.sites; kept = refl; strings = omega arith }
+keeps_none s = record { blocks = refl; declared = ([], sym (append-nil s.declared), tt); sites = extends_none s.sites; kept = refl; strings = omega arith; kinds = λ k. k }
 
 pub keeps_grows : (s r : Scope) → Keeps s r → Grows s r
-keeps_grows s r k = record { around = ap outer k.blocks; depth = ap length k.blocks; newer = λ n le above. subst (InnerAbove n) (sym k.blocks) above; declared = k.declared; sites = k.sites; kept = k.kept; strings = k.strings }
+keeps_grows s r k = record { around = ap outer k.blocks; depth = ap length k.blocks; newer = λ n le above. subst (InnerAbove n) (sym k.blocks) above; declared = k.declared; sites = k.sites; kept = k.kept; strings = k.strings; kinds = k.kinds }
 
 -- more strings
 pub keeps_strings : (s : Scope) (strings : List (List ℕ)) → Keeps s (with_strings s strings)
 keeps_strings s strings =
     let long = length-append s.strings strings in
-    record { blocks = refl; declared = ([], sym (append-nil s.declared), tt); sites = extends_none s.sites; kept = refl; strings = omega (arith, long) }
+    record { blocks = refl; declared = ([], sym (append-nil s.declared), tt); sites = extends_none s.sites; kept = refl; strings = omega (arith, long); kinds = λ k. k }
 
 pub grows_strings : (s : Scope) (strings : List (List ℕ)) → Grows s (with_strings s strings)
 grows_strings s strings = keeps_grows s (with_strings s strings) (keeps_strings s strings)
 
 -- another setting
-pub keeps_set : (s : Scope) (x : Setting) → Keeps s (with_setting s x)
-keeps_set s x = record { blocks = refl; declared = ([], sym (append-nil s.declared), tt); sites = extends_none s.sites; kept = refl; strings = omega arith }
+pub keeps_set : (s : Scope) (x : Setting) → (IsDeclaring s.setting → IsDeclaring x) → Keeps s (with_setting s x)
+keeps_set s x kinds = record { blocks = refl; declared = ([], sym (append-nil s.declared), tt); sites = extends_none s.sites; kept = refl; strings = omega arith; kinds = kinds }
+
+-- the setting before again
+pub keeps_back : (s r : Scope) → Keeps s r → Keeps s (with_setting r s.setting)
+keeps_back s r k = record { blocks = k.blocks; declared = k.declared; sites = k.sites; kept = k.kept; strings = k.strings; kinds = λ h. h }
 
 -- after a block
 pub keeps_inner : (s r : Scope) → Grows (opened s) r → Keeps s (closed r)
-keeps_inner s r g = record { blocks = g.around; declared = g.declared; sites = g.sites; kept = g.kept; strings = g.strings }
+keeps_inner s r g = record { blocks = g.around; declared = g.declared; sites = g.sites; kept = g.kept; strings = g.strings; kinds = g.kinds }
 
 insert_outer : (bs : Blocks) (name : List ℕ) (k : ℕ) → outer (insert bs name k) ≡ outer bs
 insert_outer [] name k = refl
@@ -161,8 +177,8 @@ insert_above n k le [] name above = tt
 insert_above n k le (b ∷ bs) name above = with_entry_above n k le b name above
 
 pub grows_variable : (t : Option ValueType) (s : Scope) (name : List ℕ) (at : Pos) → Grows s (with_variable t s name at)
-grows_variable (Some t) s name at = record { around = insert_outer s.blocks name _; depth = insert_length s.blocks name _; newer = λ n le above. insert_above n (length s.declared) le s.blocks name above; declared = (_, refl, (tt, tt)); sites = (_, refl); kept = refl; strings = omega arith }
-grows_variable None s name at = record { around = insert_outer s.blocks name _; depth = insert_length s.blocks name _; newer = λ n le above. insert_above n (length s.declared) le s.blocks name above; declared = (_, refl, (tt, tt)); sites = extends_none s.sites; kept = refl; strings = omega arith }
+grows_variable (Some t) s name at = record { around = insert_outer s.blocks name _; depth = insert_length s.blocks name _; newer = λ n le above. insert_above n (length s.declared) le s.blocks name above; declared = (_, refl, (tt, tt)); sites = (_, refl); kept = refl; strings = omega arith; kinds = λ k. k }
+grows_variable None s name at = record { around = insert_outer s.blocks name _; depth = insert_length s.blocks name _; newer = λ n le above. insert_above n (length s.declared) le s.blocks name above; declared = (_, refl, (tt, tt)); sites = extends_none s.sites; kept = refl; strings = omega arith; kinds = λ k. k }
 
 grows_where : (b : Bool) (t : Option ValueType) (s : Scope) (name : List ℕ) (at : Pos) → Grows s (cond b (with_variable t s name at) s)
 grows_where true t s name at = grows_variable t s name at

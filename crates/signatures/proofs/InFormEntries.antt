@@ -5,11 +5,11 @@ use Rattle.std.specs.Option.{option_map}
 use Rattle.syntax.specs.declared.expression.Name.{Name}
 use Rattle.syntax.specs.Expressions.{spelled}
 use Rattle.typed.specs.declared.program.Site.{Site}
-use Rattle.typed_syntax.specs.Syntax.{Program, type_in, site_type}
+use Rattle.typed_syntax.specs.Syntax.{Program, type_in, site_type, is_made}
 use Rattle.typed.specs.Tables.{Table}
 use Rattle.typed.specs.Trees.{trees, tree_named}
-use Rattle.typed.specs.View.{site_types}
-use Rattle.typed_syntax.specs.Form.{LeftsFit, new_sites, scope_behind, scope_with, SitesNext, ParamsFit, NamedFit, named_params as with_sites, params_scope}
+use Rattle.typed.specs.View.{site_types, is_made_kind, made_by_expressions}
+use Rattle.typed_syntax.specs.Form.{LeftsFit, sites_after, lefts_after, scope_behind, scope_with, SitesNext, ParamsFit, NamedFit, named_params as with_sites, params_scope}
 use Rattle.typed_syntax.specs.Types.{TypeTree, ints}
 use Rattle.base.specs.declared.value_type.ValueType.{ValueType}
 use Rattle.type_faults.proofs.Options.{and_then_some, map_some, none_some, same_some}
@@ -20,7 +20,7 @@ use Rattle.signatures.specs.declared.entries.Role.{Role}
 use Rattle.signatures.specs.declared.entries.Role.TheVariants.{Parameter, Result}
 use Rattle.signatures.specs.Entries.{blank_entry, variable_entry, entry_of, sites_of, entry_left, slot_with, slots_each, entry_in, behind_entry_name, behind_entry, entries, behind_entries}
 use Rattle.signatures.proofs.Growth.{Extends, extends_twice, Grows, grows_entries}
-use Rattle.signatures.proofs.Visible.{HasSite, has_longer, new_site, Visible, visible_with}
+use Rattle.signatures.proofs.Visible.{HasSite, has_longer, new_site, IsUnmade, unmade_longer, new_unmade, Visible, visible_with}
 
 -- ---- the sites of a program
 
@@ -29,10 +29,16 @@ get_mapped types [] k x is = absurd (none_some is)
 get_mapped types (y ∷ sites) zero x is = ap (λ (site : Site). type_in types site.type_id.0) (same_some is)
 get_mapped types (y ∷ sites) (suc k) x is = get_mapped types sites k x is
 
--- a program with the types of a table, and with those of these sites
+get_made : (sites : List Site) (k : ℕ) (x : Site) → slice_get sites k ≡ Some x → get_or (made_by_expressions sites) k false ≡ is_made_kind x.kind
+get_made [] k x is = absurd (none_some is)
+get_made (y ∷ sites) zero x is = ap (λ (site : Site). is_made_kind site.kind) (same_some is)
+get_made (y ∷ sites) (suc k) x is = get_made sites k x is
+
+-- a program with the types of a table, and with those of these sites and what makes them
 pub record HasSites (T : Table) (p : Program) (all : List Site) : Type 0 where
   pub types : p.types ≡ trees T
   pub sites : p.sites ≡ site_types p.types all
+  pub made : p.made ≡ made_by_expressions all
 
 module _ (T : Table) (p : Program) (all : List Site) (has : HasSites T p all) where
   pub site_is : (site : ℕ) (t : ValueType) → HasSite T all site t → site_type p site ≡ type_tree T t
@@ -41,6 +47,11 @@ module _ (T : Table) (p : Program) (all : List Site) (has : HasSites T p all) wh
   -- what a scope with this table shows has its type
   pub site_shown : (s : Scope) → s.types ≡ T → Extends s.sites all → (site : ℕ) (t : ValueType) → HasSite s.types s.sites site t → site_type p site ≡ type_tree T t
   site_shown s types_are e site t h = site_is site t (subst (λ (U : Table). HasSite U all site t) types_are (has_longer s.types s.sites all site t e h))
+
+  -- no expression makes the declared variables of a scope before the end
+  pub unmade_shown : (s : Scope) → Extends s.sites all → (site : ℕ) → IsUnmade s.sites site → is_made p site ≡ false
+  unmade_shown s e site h =
+      let k = unmade_longer s.sites all site e h in ap (λ (l : List Bool). get_or l site false) has.made ∙ get_made all site k.0 k.1 ∙ k.2
 
 -- a scope before the end: its sites are the first ones of the program, which has its strings
 abbrev pub Within : Program → List Site → Scope → Type 0
@@ -73,11 +84,6 @@ sites_long [] = refl
 sites_long (None ∷ es) = sites_long es
 sites_long (Some site ∷ es) = ap suc (sites_long es)
 
-pub left_sites : (es : List (Option ℕ)) → new_sites (map entry_left es) ≡ with_sites es
-left_sites [] = refl
-left_sites (None ∷ es) = left_sites es
-left_sites (Some site ∷ es) = let rest = left_sites es in omega (arith, rest)
-
 pub left_scope : (scope : List ℕ) (es : List (Option ℕ)) → scope_behind scope (map entry_left es) ≡ params_scope scope es
 left_scope scope [] = refl
 left_scope scope (None ∷ es) = left_scope scope es
@@ -89,24 +95,48 @@ named_scope_of scope (None ∷ es) = named_scope_of scope es
 named_scope_of scope (Some site ∷ es) = named_scope_of (site ∷ scope) es
 
 module _ (p : Program) where
+  -- what they declare lies below the next number
+  pub lefts_upto : (m : ℕ) (ts : List TypeTree) (es : List (Option ℕ)) → ParamsFit p m ts es → lefts_after m (map entry_left es) ≤ m + with_sites es
+  lefts_upto m [] [] fit = omega arith
+  lefts_upto m (t ∷ ts) (None ∷ es) fit = lefts_upto m ts es fit
+  lefts_upto m (t ∷ ts) (Some site ∷ es) fit =
+      let later = lefts_upto (suc m) ts es fit.3 in subst (λ j. lefts_after (suc j) (map entry_left es) ≤ m + suc (with_sites es)) (sym fit.0) (omega (arith, later))
+  lefts_upto m [] (e ∷ es) fit = absurd fit
+  lefts_upto m (t ∷ ts) [] fit = absurd fit
+
+  pub sites_upto : (m : ℕ) (ts : List TypeTree) (es : List (Option ℕ)) → ParamsFit p m ts es → sites_after m (sites_of es) ≤ m + with_sites es
+  sites_upto m [] [] fit = omega arith
+  sites_upto m (t ∷ ts) (None ∷ es) fit = sites_upto m ts es fit
+  sites_upto m (t ∷ ts) (Some site ∷ es) fit =
+      let later = sites_upto (suc m) ts es fit.3 in subst (λ j. sites_after (suc j) (sites_of es) ≤ m + suc (with_sites es)) (sym fit.0) (omega (arith, later))
+  sites_upto m [] (e ∷ es) fit = absurd fit
+  sites_upto m (t ∷ ts) [] fit = absurd fit
+
   pub lefts_of_params : (scope : List ℕ) (m n : ℕ) (ts : List TypeTree) (es : List (Option ℕ)) → ParamsFit p m ts es → m + with_sites es ≤ n → LeftsFit p scope m n ts (map entry_left es)
   lefts_of_params scope m n [] [] fit le = tt
   lefts_of_params scope m n (t ∷ ts) (None ∷ es) fit le = lefts_of_params scope m n ts es fit le
-  lefts_of_params scope m n (t ∷ ts) (Some site ∷ es) fit le = (fit.0, omega (arith, le), fit.1, lefts_of_params scope (suc m) n ts es fit.2 (omega (arith, le)))
+  lefts_of_params scope m n (t ∷ ts) (Some site ∷ es) fit le = (
+    (omega (arith, fit.0), omega (arith, fit.0, le), fit.1),
+    fit.2,
+    subst (λ j. LeftsFit p scope (suc j) n ts (map entry_left es)) (sym fit.0) (lefts_of_params scope (suc m) n ts es fit.3 (omega (arith, le))),
+  )
   lefts_of_params scope m n [] (e ∷ es) fit le = absurd fit
   lefts_of_params scope m n (t ∷ ts) [] fit le = absurd fit
 
-  pub next_of_params : (m n : ℕ) (ts : List TypeTree) (es : List (Option ℕ)) → ParamsFit p m ts es → m + with_sites es ≤ n → SitesNext m n (sites_of es)
+  pub next_of_params : (m n : ℕ) (ts : List TypeTree) (es : List (Option ℕ)) → ParamsFit p m ts es → m + with_sites es ≤ n → SitesNext p m n (sites_of es)
   next_of_params m n [] [] fit le = tt
   next_of_params m n (t ∷ ts) (None ∷ es) fit le = next_of_params m n ts es fit le
-  next_of_params m n (t ∷ ts) (Some site ∷ es) fit le = (fit.0, omega (arith, le), next_of_params (suc m) n ts es fit.2 (omega (arith, le)))
+  next_of_params m n (t ∷ ts) (Some site ∷ es) fit le = (
+    (omega (arith, fit.0), omega (arith, fit.0, le), fit.1),
+    subst (λ j. SitesNext p (suc j) n (sites_of es)) (sym fit.0) (next_of_params (suc m) n ts es fit.3 (omega (arith, le))),
+  )
   next_of_params m n [] (e ∷ es) fit le = absurd fit
   next_of_params m n (t ∷ ts) [] fit le = absurd fit
 
   pub named_of_params : (m : ℕ) (ts : List TypeTree) (es : List (Option ℕ)) → ParamsFit p m ts es → NamedFit p m (sites_of es)
   named_of_params m [] [] fit = tt
   named_of_params m (t ∷ ts) (None ∷ es) fit = named_of_params m ts es fit
-  named_of_params m (t ∷ ts) (Some site ∷ es) fit = (fit.0, named_of_params (suc m) ts es fit.2)
+  named_of_params m (t ∷ ts) (Some site ∷ es) fit = (fit.0, fit.1, named_of_params (suc m) ts es fit.3)
   named_of_params m [] (e ∷ es) fit = absurd fit
   named_of_params m (t ∷ ts) [] fit = absurd fit
 
@@ -165,7 +195,8 @@ module _ (T : Table) (text : List ℕ) (p : Program) (all : List Site) (has : Ha
           let next1 : length s1.sites ≡ suc (length s.sites) = omega (arith, one1) in
           let before : Extends s1.sites all = extends_twice s1.sites (behind_entries text s1 ps).sites all (grows_entries text s1 ps).sites x in
           let type_is = site_shown T p all has s1 types_are before (length s.sites) t (new_site s s.setting (spelled text n) t n.pos) in
-          ((refl, type_is, subst (λ j. ParamsFit p j (type_trees T ts) xs) next1 f.fit), f.visible, omega (arith, f.count, one1), ap suc f.long)
+          let unmade = unmade_shown T p all has s1 before (length s.sites) (new_unmade s s.setting (spelled text n) t n.pos visible.kinds) in
+          ((refl, unmade, type_is, subst (λ j. ParamsFit p j (type_trees T ts) xs) next1 f.fit), f.visible, omega (arith, f.count, one1), ap suc f.long)
 
       with_name : (n : Name) (b h : Bool) (e : Option ℕ) (xs : List (Option ℕ)) → entry_of role b h (length s.sites) ≡ Some e
           → entries text role (cond (not b && not h) (with_variable (Some t) s (spelled text n) n.pos) s) ps ≡ Some xs

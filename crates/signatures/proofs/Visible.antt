@@ -7,6 +7,7 @@ use Rattle.base.specs.declared.pos.Pos.{Pos}
 use Rattle.base.specs.declared.value_type.ValueType.{ValueType}
 use Rattle.typed_syntax.specs.Form.{InScope}
 use Rattle.typed.specs.Tables.{Table}
+use Rattle.typed.specs.View.{is_made_kind}
 use Rattle.type_faults.proofs.Options.{none_some}
 use Rattle.typed.specs.declared.program.Site.{Site}
 use Rattle.names.specs.Blocks.{Names, Blocks, entry_of, or_else, lookup, with_entry, insert}
@@ -18,7 +19,7 @@ use Rattle.names.specs.declared.scope.Declared.TheVariants.{Variable, Global}
 use Rattle.names.specs.Universe.{predeclared}
 use Rattle.names.specs.Scope.{Scope, type_number, numbered, declaration, with_declaration, with_site, with_variable, with_strings, with_setting, opened, site_at, beginning}
 use Rattle.names.proofs.Settled.{AreSound, predeclared_is}
-use Rattle.signatures.proofs.Growth.{Extends, Package, Keeps}
+use Rattle.signatures.proofs.Growth.{Extends, Package, IsDeclaring, Keeps}
 
 -- the numbers of the names lie below one
 abbrev EntriesBelow : ℕ → Names → Type 0
@@ -145,6 +146,16 @@ site_last (y ∷ sites) x = site_last sites x
 pub new_site : (s : Scope) (x : Setting) (name : List ℕ) (t : ValueType) (at : Pos) → HasSite s.types (with_site s x name t at).sites (length s.sites) t
 new_site s x name t at = (_, site_last s.sites (site_at x s.types (length s.site_names) name t at), refl)
 
+-- a site of declared variables stands at a place of the list: no expression makes them
+abbrev pub IsUnmade : List Site → ℕ → Type 0
+IsUnmade sites site = (x : Site) × (slice_get sites site ≡ Some x) × (is_made_kind x.kind ≡ false)
+
+pub unmade_longer : (a b : List Site) (site : ℕ) → Extends a b → IsUnmade a site → IsUnmade b site
+unmade_longer a b site e h = (h.0, ap (λ (l : List Site). slice_get l site) e.1 ∙ got_longer a e.0 site h.0 h.1, h.2)
+
+pub new_unmade : (s : Scope) (x : Setting) (name : List ℕ) (t : ValueType) (at : Pos) → IsDeclaring x → IsUnmade (with_site s x name t at).sites (length s.sites)
+new_unmade s x name t at kinds = (_, site_last s.sites (site_at x s.types (length s.site_names) name t at), kinds)
+
 -- what a name stands for that a scope shows: a variable is in scope, with a site of its type; a package variable has its number
 abbrev pub IsShown : Table → List ℕ → List Site → List ℕ → Declared → Type 0
 IsShown T scope sites globals (Variable site t) = InScope site.0 scope × HasSite T sites site.0 t
@@ -167,12 +178,13 @@ numbered_shown : (s : Scope) (scope : List ℕ) (sites : List Site) (globals : L
 numbered_shown s scope sites globals name None d here is = predeclared_shown s.types scope sites globals name d is
 numbered_shown s scope sites globals name (Some k) d here is = here k refl is
 
--- names have numbers of declarations, those of variables are in scope, with sites of their types, package variables have their numbers, and
--- constants are held by their types
+-- names have numbers of declarations, those of variables are in scope, with sites of their types, package variables have their numbers,
+-- constants are held by their types, and new sites are of declared variables
 pub record Visible (s : Scope) (scope : List ℕ) : Type 0 where
   pub bounded : BlocksBelow (length s.declared) s.blocks
   pub shown : (name : List ℕ) (d : Declared) → declaration s name ≡ Some d → IsShown s.types scope s.sites s.globals d
   pub held : AreSound s.values
+  pub kinds : IsDeclaring s.setting
 
 -- of a variable, and of a package variable
 pub shown_site : (s : Scope) (scope : List ℕ) → Visible s scope → (name : List ℕ) (site : SiteId) (t : ValueType) → declaration s name ≡ Some (Variable site t) → InScope site.0 scope × HasSite s.types s.sites site.0 t
@@ -187,16 +199,17 @@ visible_block T = record {
   bounded = (tt, tt);
   shown = λ name d is. predeclared_shown T [] [] [] name d is;
   held = λ k f is. absurd (none_some is);
+  kinds = refl;
 }
 
 pub visible_opened : (s : Scope) (scope : List ℕ) → Visible s scope → Visible (opened s) scope
-visible_opened s scope v = record { bounded = (tt, v.bounded); shown = v.shown; held = v.held }
+visible_opened s scope v = record { bounded = (tt, v.bounded); shown = v.shown; held = v.held; kinds = v.kinds }
 
 pub visible_strings : (s : Scope) (scope : List ℕ) (strings : List (List ℕ)) → Visible s scope → Visible (with_strings s strings) scope
-visible_strings s scope strings v = record { bounded = v.bounded; shown = v.shown; held = v.held }
+visible_strings s scope strings v = record { bounded = v.bounded; shown = v.shown; held = v.held; kinds = v.kinds }
 
-pub visible_set : (s : Scope) (scope : List ℕ) (x : Setting) → Visible s scope → Visible (with_setting s x) scope
-visible_set s scope x v = record { bounded = v.bounded; shown = v.shown; held = v.held }
+pub visible_set : (s : Scope) (scope : List ℕ) (x : Setting) → IsDeclaring x → Visible s scope → Visible (with_setting s x) scope
+visible_set s scope x kinds v = record { bounded = v.bounded; shown = v.shown; held = v.held; kinds = kinds }
 
 -- the same blocks, and more declarations
 pub visible_kept : (s r : Scope) (scope : List ℕ) → Visible s scope → Keeps s r → Visible r scope
@@ -204,6 +217,7 @@ visible_kept s r scope v k = record {
   bounded = subst (λ bs. BlocksBelow (length r.declared) bs) (sym k.blocks) (more_blocks (length s.declared) (length r.declared) (omega (arith, longer)) s.blocks v.bounded);
   shown = λ name d is. numbered_shown r scope r.sites r.globals name (lookup r.blocks name) d (λ j j_is got. here name d j j_is got) is;
   held = subst AreSound (sym (ap (λ (q : Package). q.values) k.kept)) v.held;
+  kinds = k.kinds v.kinds;
 }
   where
     longer : length r.declared ≡ length s.declared + length k.declared.0
@@ -248,4 +262,4 @@ pub visible_with : (s : Scope) (scope name : List ℕ) (u : ValueType) (at : Pos
 visible_with s scope name u at v =
     let d : Declared = Variable (record { 0 = length s.sites }) u in
     let w = visible_more s (with_site s s.setting name u at).sites scope (length s.sites ∷ scope) name d v (_, refl) (λ w h. inr h) (inl refl, new_site s s.setting name u at) in
-    record { bounded = w.0; shown = w.1; held = v.held }
+    record { bounded = w.0; shown = w.1; held = v.held; kinds = v.kinds }

@@ -17,7 +17,7 @@ use Rattle.typed_syntax.specs.declared.operators.BinOp.TheVariants as op
 use Rattle.typed.specs.declared.program.Site.{Site}
 use Rattle.typed.specs.Positions.{position}
 use Rattle.typed_syntax.specs.Syntax.{Exs, Left, Pl, St, Program, read, none, more, results, read_int as asked_two, blank, new, to, update, return_stmt}
-use Rattle.typed_syntax.specs.Form.{IsArithmetic, IsStep, PlFits, LeftsFit, new_sites, births, scope_behind, scope_after, ExFits, ExsFit, PieceFits, PiecesFit, ReturnFits, StFits}
+use Rattle.typed_syntax.specs.Form.{IsArithmetic, IsStep, PlFits, LeftsFit, lefts_after, declared_after, scope_behind, scope_after, ExFits, ExsFit, PieceFits, PiecesFit, ReturnFits, StFits}
 use Rattle.typed_syntax.specs.Types.{TypeTree, ints, bools}
 use Rattle.base.specs.declared.value_type.ValueType.{ValueType}
 use Rattle.base.specs.declared.value_type.ValueType.TheVariants.{Int, Bool as Truth, Struct, Array, Pointer, Slice}
@@ -39,9 +39,9 @@ use Rattle.given_values.proofs.ValuesFit.{Agrees, AreAccepted, PartFits, PartsFi
 use Rattle.expression_types.proofs.InForm.{gives_fit, seen_fit}
 use Rattle.signatures.specs.declared.slots.Slot.{Slot}
 use Rattle.signatures.specs.Entries.{slot_with, slots_each}
-use Rattle.signatures.proofs.Growth.{Extends, extends_twice}
-use Rattle.signatures.proofs.Visible.{new_site, Visible, shown_site, shown_number, visible_with, visible_strings}
-use Rattle.signatures.proofs.InFormEntries.{HasSites, site_shown, Within}
+use Rattle.signatures.proofs.Growth.{Extends, IsDeclaring, extends_twice, extends_length}
+use Rattle.signatures.proofs.Visible.{new_site, new_unmade, Visible, shown_site, shown_number, visible_with, visible_strings}
+use Rattle.signatures.proofs.InFormEntries.{HasSites, site_shown, unmade_shown, Within}
 use Rattle.simple_statements.specs.SimpleStatements.{Returns, only, target, place_type, place_value, is_blank_name, place_in, left_of, wanted_of, new_left_of, new_wanted_of, declares, strings_of, piece_from, pieces_from, strings_in_call, strings_in, expressed, updated, stepped, returned, assignment, left, wanted, lefts, all_wanted, new_left, new_wanted, new_lefts, all_new_wanted, new_slots, with_variables, may_define, own_value, definition_types, behind_simple, update_one, update_statement, step_statement, simple_statement}
 use Rattle.simple_statements.proofs.SettledSimple.{assignment_some, where_some, own_read, update_some}
 use Rattle.simple_statements.proofs.Growth.{grows_variables}
@@ -54,9 +54,10 @@ pub record ReturnsFit (T : Table) (r : Returns) (results1 : List TypeTree) (name
   pub bare : r.may_be_bare ≡ true → length results1 ≡ named
   pub no_values : results1 ≡ [] → named ≡ 0
 
--- a typed form that is in form between two scopes
-pub record Formed (s r : Scope) (born : ℕ) (Fits : ℕ → ℕ → Type 0) : Type 0 where
-  pub count : length s.sites + born ≡ length r.sites
+-- a typed form that is in form between two scopes, the second of which has all sites that it declares: the next may have this number
+pub record Formed (s r : Scope) (after : ℕ) (Fits : ℕ → ℕ → Type 0) : Type 0 where
+  pub more : length s.sites ≤ length r.sites
+  pub upto : after ≤ length r.sites
   pub fit : (n : ℕ) → length r.sites ≤ n → Fits (length s.sites) n
 
 -- no new variables
@@ -120,7 +121,7 @@ module _ (T : Table) (p : Program) where
   -- left sides without new variables
   pub record OldFit (scope : List ℕ) (ts : List ValueType) (ls : List Left) : Type 0 where
     pub fit : (m n : ℕ) → LeftsFit p scope m n (type_trees T ts) ls
-    pub sites : new_sites ls ≡ 0
+    pub sites : (m : ℕ) → lefts_after m ls ≡ m
     pub behind : (wide : List ℕ) → scope_behind wide ls ≡ wide
 
   old_more : (scope : List ℕ) (t : ValueType) (ts : List ValueType) (l : Left) (ls : List Left) → IsOld scope t l → OldFit scope ts ls → OldFit scope (t ∷ ts) (l ∷ ls)
@@ -136,7 +137,7 @@ module _ (T : Table) (p : Program) where
     side_old s scope known e t l wants is = left_old scope (is_blank_name text (name_in e)) (place_in text s e) t l (known e) wants is
 
     pub lefts_fit : (s : Scope) (scope : List ℕ) (known : KnownAll s scope) (es : TreeExs) (ts : List ValueType) (ls : List Left) → AreAccepted (all_wanted text s es) ts → lefts text s es ≡ Some ls → OldFit scope ts ls
-    lefts_fit s scope known expressions.none [] ls accepted is = subst (λ (l : List Left). OldFit scope [] l) (same_some is) (record { fit = λ m n. tt; sites = refl; behind = λ wide. refl })
+    lefts_fit s scope known expressions.none [] ls accepted is = subst (λ (l : List Left). OldFit scope [] l) (same_some is) (record { fit = λ m n. tt; sites = λ m. refl; behind = λ wide. refl })
     lefts_fit s scope known expressions.none (t ∷ ts) ls accepted is = absurd accepted
     lefts_fit s scope known (some e es) [] ls accepted is = absurd (omega (arith, accepted_long (wanted text s e ∷ all_wanted text s es) [] accepted))
     lefts_fit s scope known (some e es) (t ∷ ts) ls accepted is =
@@ -149,33 +150,37 @@ module _ (T : Table) (p : Program) where
     record NewFit (scope0 : List ℕ) (s : Scope) (scope : List ℕ) (vs : List Slot) (ts : List ValueType) (ls : List Left) (n : ℕ) : Type 0 where
       fit : LeftsFit p scope0 (length s.sites) n (type_trees T ts) ls
       visible : Visible (with_variables text s vs) (scope_behind scope ls)
-      count : length s.sites + new_sites ls ≡ length (with_variables text s vs).sites
+      upto : lefts_after (length s.sites) ls ≤ length (with_variables text s vs).sites
 
     old_left : (scope0 : List ℕ) (s : Scope) (scope : List ℕ) (vs : List Slot) (t : ValueType) (ts : List ValueType) (l : Left) (ls : List Left) (n : ℕ) → IsOld scope0 t l → NewFit scope0 s scope vs ts ls n → NewFit scope0 s scope vs (t ∷ ts) (l ∷ ls) n
-    old_left scope0 s scope vs t ts l ls n (inl is) k = subst (λ (x : Left). NewFit scope0 s scope vs (t ∷ ts) (x ∷ ls) n) (sym is) (record { fit = k.fit; visible = k.visible; count = k.count })
-    old_left scope0 s scope vs t ts l ls n (inr o) k = subst (λ (x : Left). NewFit scope0 s scope vs (t ∷ ts) (x ∷ ls) n) (sym o.1) (record { fit = (o.2, k.fit); visible = k.visible; count = k.count })
+    old_left scope0 s scope vs t ts l ls n (inl is) k = subst (λ (x : Left). NewFit scope0 s scope vs (t ∷ ts) (x ∷ ls) n) (sym is) (record { fit = k.fit; visible = k.visible; upto = k.upto })
+    old_left scope0 s scope vs t ts l ls n (inr o) k = subst (λ (x : Left). NewFit scope0 s scope vs (t ∷ ts) (x ∷ ls) n) (sym o.1) (record { fit = (o.2, k.fit); visible = k.visible; upto = k.upto })
 
     module _ (all : List Site) (has : HasSites T p all) where
-      new_left_one : (scope0 : List ℕ) (s : Scope) (scope : List ℕ) (x : Name) (t : ValueType) (vs : List Slot) (ts : List ValueType) (ls : List Left) (n : ℕ) → s.types ≡ T → length (with_variables text (with_variable (Some t) s (spelled text x) x.pos) vs).sites ≤ n
+      new_left_one : (scope0 : List ℕ) (s : Scope) (scope : List ℕ) (x : Name) (t : ValueType) (vs : List Slot) (ts : List ValueType) (ls : List Left) (n : ℕ) → s.types ≡ T → IsDeclaring s.setting → length (with_variables text (with_variable (Some t) s (spelled text x) x.pos) vs).sites ≤ n
           → Extends (with_variables text (with_variable (Some t) s (spelled text x) x.pos) vs).sites all
           → NewFit scope0 (with_variable (Some t) s (spelled text x) x.pos) (length s.sites ∷ scope) vs ts ls n → NewFit scope0 s scope (slot_with (Some t) x ∷ vs) (t ∷ ts) (new (length s.sites) ∷ ls) n
-      new_left_one scope0 s scope x t vs ts ls n types_are le ext k =
+      new_left_one scope0 s scope x t vs ts ls n types_are kinds le ext k =
           let s1 = with_variable (Some t) s (spelled text x) x.pos in
           let site : Site = site_at s.setting s.types (length s.site_names) (spelled text x) t x.pos in
           let one1 : length s1.sites ≡ length s.sites + 1 = length-append s.sites (site ∷ []) in
           let next1 : length s1.sites ≡ suc (length s.sites) = omega (arith, one1) in
-          let type_is = site_shown T p all has s1 types_are (extends_twice s1.sites (with_variables text s1 vs).sites all (grows_variables text s1 vs).sites ext) (length s.sites) t (new_site s s.setting (spelled text x) t x.pos) in
+          let later : Extends s1.sites (with_variables text s1 vs).sites = (grows_variables text s1 vs).sites in
+          let ext1 : Extends s1.sites all = extends_twice s1.sites (with_variables text s1 vs).sites all later ext in
+          let type_is = site_shown T p all has s1 types_are ext1 (length s.sites) t (new_site s s.setting (spelled text x) t x.pos) in
+          let unmade = unmade_shown T p all has s1 ext1 (length s.sites) (new_unmade s s.setting (spelled text x) t x.pos kinds) in
+          let longer = extends_length s1.sites (with_variables text s1 vs).sites later in
           record {
-            fit = (refl, omega (arith, le, k.count, one1), type_is, subst (λ j. LeftsFit p scope0 j n (type_trees T ts) ls) next1 k.fit);
+            fit = ((omega arith, omega (arith, le, longer, one1), unmade), type_is, subst (λ j. LeftsFit p scope0 j n (type_trees T ts) ls) next1 k.fit);
             visible = k.visible;
-            count = omega (arith, k.count, one1);
+            upto = subst (λ j. lefts_after j ls ≤ length (with_variables text s1 vs).sites) next1 k.upto;
           }
 
       new_lefts_fit : (s0 : Scope) (scope0 : List ℕ) (known0 : KnownAll s0 scope0) (n : ℕ) (ns : List Name) (ts : List ValueType) (s : Scope) (scope : List ℕ) (ls : List Left) → s.types ≡ T → Visible s scope → AreAccepted (all_new_wanted text s0 ns) ts
           → new_lefts text s0 (length s.sites) ns ≡ Some ls → length (with_variables text s (new_slots text s0 (slots_each (Some ts) ns))).sites ≤ n → Extends (with_variables text s (new_slots text s0 (slots_each (Some ts) ns))).sites all
           → NewFit scope0 s scope (new_slots text s0 (slots_each (Some ts) ns)) ts ls n
       new_lefts_fit s0 scope0 known0 n [] [] s scope ls types_are visible accepted is le ext =
-          subst (λ (l : List Left). NewFit scope0 s scope [] [] l n) (same_some is) (record { fit = tt; visible = visible; count = omega arith })
+          subst (λ (l : List Left). NewFit scope0 s scope [] [] l n) (same_some is) (record { fit = tt; visible = visible; upto = omega arith })
       new_lefts_fit s0 scope0 known0 n [] (t ∷ ts) s scope ls types_are visible accepted is le ext = absurd accepted
       new_lefts_fit s0 scope0 known0 n (x ∷ ns) [] s scope ls types_are visible accepted is le ext = absurd (omega (arith, accepted_long (new_wanted text s0 x ∷ all_new_wanted text s0 ns) [] accepted))
       new_lefts_fit s0 scope0 known0 n (x ∷ ns) (t ∷ ts) s scope ls types_are visible accepted is le ext =
@@ -208,7 +213,7 @@ module _ (T : Table) (p : Program) where
               let site : 1 + length s.sites ≡ length s1.sites = omega (arith, one1) in
               let found : new_lefts text s0 (length s1.sites) ns ≡ Some rest = ap (λ j. new_lefts text s0 j ns) (sym site) ∙ rest_is in
               subst (λ (y : Left). NewFit scope0 s scope (slot_with (Some t) x ∷ rest_slots) (t ∷ ts) (y ∷ rest) n) (same_some l_is)
-              (new_left_one scope0 s scope x t rest_slots ts rest n types_are le1 ext1 (later s1 (length s.sites ∷ scope) rest types_are (visible_with s scope (spelled text x) t x.pos visible) found le1 ext1))
+              (new_left_one scope0 s scope x t rest_slots ts rest n types_are visible.kinds le1 ext1 (later s1 (length s.sites ∷ scope) rest types_are (visible_with s scope (spelled text x) t x.pos visible) found le1 ext1))
 
 -- ---- statements
 
@@ -228,24 +233,27 @@ module _ (T : Table) (text : List ℕ) (p : Program) (all : List Site) (has : Ha
 
   module _ (wanted1 : List TypeTree) (named : ℕ) where
     abbrev pub StFormed : (looped : Bool) → Scope → List ℕ → Scope → St → Type 0
-    StFormed looped s scope after t = Formed s after (births t) (λ m n. StFits p wanted1 named looped scope m n t)
+    StFormed looped s scope after t = Formed s after (declared_after (length s.sites) t) (λ m n. StFits p wanted1 named looped scope m n t)
 
-    -- what is in form wherever it stands, bears no site, and keeps the scope
+    -- what is in form wherever it stands, declares no site, and keeps the scope
     abbrev pub Still : (looped : Bool) → List ℕ → St → Type 0
-    Still looped scope t = (births t ≡ 0) × ((m n : ℕ) → StFits p wanted1 named looped scope m n t) × (scope_after scope t ≡ scope)
+    Still looped scope t = ((m : ℕ) → declared_after m t ≡ m) × ((m n : ℕ) → StFits p wanted1 named looped scope m n t) × (scope_after scope t ≡ scope)
+
+    no_later : (m : ℕ) (t : St) → ((k : ℕ) → declared_after k t ≡ k) → declared_after m t ≤ m
+    no_later m t none1 = let same1 = none1 m in omega (arith, same1)
 
     pub still_formed : (looped : Bool) (s : Scope) (scope : List ℕ) (t : St) → Visible s scope → Still looped scope t → StFormed looped s scope s t × Visible s (scope_after scope t)
-    still_formed looped s scope t v f = (record { count = omega (arith, f.0); fit = λ n le. f.1 (length s.sites) n }, subst (λ w. Visible s w) (sym f.2) v)
+    still_formed looped s scope t v f = (record { more = omega arith; upto = no_later (length s.sites) t f.0; fit = λ n le. f.1 (length s.sites) n }, subst (λ w. Visible s w) (sym f.2) v)
 
     return_still : (looped : Bool) (scope : List ℕ) (r : Returns) (goes : ReturnsFit T r wanted1 named) (formed : IsFormed T) (os : List Seen) (t : St) → AllFit T p scope os → returned r os ≡ Some t → Still looped scope t
     return_still looped scope r goes formed [] t fits is =
-        let w = where_some r.may_be_bare (Some (return_stmt none)) t is in subst (λ (x : St). Still looped scope x) (same_some w.1) (refl, λ m n. goes.bare w.0, refl)
+        let w = where_some r.may_be_bare (Some (return_stmt none)) t is in subst (λ (x : St). Still looped scope x) (same_some w.1) (λ m. refl, λ m n. goes.bare w.0, refl)
     return_still looped scope r goes formed (o ∷ os) t fits is =
         let q = map_some return_stmt (taken r.wanted (o ∷ os)) t is in
         let f = taken_fits T p scope formed r.wanted (o ∷ os) q.0 fits q.1 in
         let same1 = asked_types goes.types f.types (subst (λ (l : List Wanted). AreAccepted l f.types) goes.wanted f.accepted) in
         let whole : ExsFit p scope wanted1 q.0 = subst (λ (l : List TypeTree). ExsFit p scope l q.0) (ap (type_trees T) (sym same1) ∙ goes.trees) f.fit in
-        subst (λ (x : St). Still looped scope x) q.2 (refl, λ m n. by wanted1 goes.no_values q.0 whole, refl)
+        subst (λ (x : St). Still looped scope x) q.2 (λ m. refl, λ m n. by wanted1 goes.no_values q.0 whole, refl)
       where
         by : (l : List TypeTree) → (l ≡ [] → named ≡ 0) → (es : Exs) → ExsFit p scope l es → ReturnFits p scope l named es
         by [] no_values none fit = sym (no_values refl)
@@ -266,12 +274,12 @@ module _ (T : Table) (text : List ℕ) (p : Program) (all : List Site) (has : Ha
 
     express_still : (looped : Bool) (scope : List ℕ) (k : ℕ) (g : Gives) (t : St) → GivesFit T p scope g → k + length (strings_in_call g) ≤ length p.strings → expressed k g ≡ Some t → Still looped scope t
     express_still looped scope k (one x) t fits le is = absurd (none_some is)
-    express_still looped scope k (called at ts f es) t fits le is = subst (λ (x : St). Still looped scope x) (same_some is) (refl, λ m n. (type_trees T ts, results_fit T p scope ts f es fits), refl)
-    express_still looped scope k (asking at) t fits le is = subst (λ (x : St). Still looped scope x) (same_some is) (refl, λ m n. (ints ∷ bools ∷ [], refl), refl)
+    express_still looped scope k (called at ts f es) t fits le is = subst (λ (x : St). Still looped scope x) (same_some is) (λ m. refl, λ m n. (type_trees T ts, results_fit T p scope ts f es fits), refl)
+    express_still looped scope k (asking at) t fits le is = subst (λ (x : St). Still looped scope x) (same_some is) (λ m. refl, λ m n. (ints ∷ bools ∷ [], refl), refl)
     express_still looped scope k (quoted at bytes) t fits le is = absurd (none_some is)
-    express_still looped scope k (printed at line ps) t fits le is = subst (λ (x : St). Still looped scope x) (same_some is) (refl, λ m n. pieces_fit scope k ps fits le, refl)
-    express_still looped scope k (panicked at q) t fits le is = subst (λ (x : St). Still looped scope x) (same_some is) (refl, λ m n. piece_fits scope k q fits le, refl)
-    express_still looped scope k (exited at e) t fits le is = subst (λ (x : St). Still looped scope x) (same_some is) (refl, λ m n. fits, refl)
+    express_still looped scope k (printed at line ps) t fits le is = subst (λ (x : St). Still looped scope x) (same_some is) (λ m. refl, λ m n. pieces_fit scope k ps fits le, refl)
+    express_still looped scope k (panicked at q) t fits le is = subst (λ (x : St). Still looped scope x) (same_some is) (λ m. refl, λ m n. piece_fits scope k q fits le, refl)
+    express_still looped scope k (exited at e) t fits le is = subst (λ (x : St). Still looped scope x) (same_some is) (λ m. refl, λ m n. fits, refl)
 
     module _ (looped : Bool) (s : Scope) (scope : List ℕ) (visible : Visible s scope) (types_are : s.types ≡ T) (agrees : Agrees s p) where
       formed : IsFormed T
@@ -307,7 +315,7 @@ module _ (T : Table) (text : List ℕ) (p : Program) (all : List Site) (has : Ha
           let whole = fits (length after.sites) (omega arith) in
           subst (λ (o : Option (List ValueType)). StFormed looped s scope (with_variables text s (new_slots text s (slots_each o ns))) t × Visible (with_variables text s (new_slots text s (slots_each o ns))) (scope_after scope t)) (sym found)
           (subst (λ (x : St). StFormed looped s scope after x × Visible after (scope_after scope x)) a.4
-          (record { count = whole.count; fit = λ n le. (type_trees T values.types, (fits n le).fit, values.fit) }, whole.visible))
+          (record { more = extends_length s.sites after.sites (grows_variables text s vs).sites; upto = whole.upto; fit = λ n le. (type_trees T values.types, (fits n le).fit, values.fit) }, whole.visible))
 
       -- the value of a left side is one of its type
       own_fits : (e : TreeEx) (t : ValueType) (q : Pl) → own_value text s e ≡ Some (value t (read q)) → PlFits p scope (type_tree T t) q
@@ -336,7 +344,7 @@ module _ (T : Table) (text : List ℕ) (p : Program) (all : List Site) (has : Ha
           let right : OperandFits T p scope u.2 = operand_fits T p scope (gives text s v) u.2 (maybe_fits T p scope (gives text s v) (λ g g_is. given_fits v g g_is)) u.4 in
           let right1 : ExFits p scope ints form.0 = subst (λ (x : TypeTree). ExFits p scope x form.0) (int_tree T formed) (value_fits T p scope formed u.2 Int form.0 form.1 right form.3) in
           let whole : update (position at) u.1 (arithmetic_of tree_op) form.0 ≡ t = same_some (ap updated (sym form.4) ∙ q.2) in
-          subst (λ (x : St). Still looped scope x) whole (refl, λ m n. (arithmetic_is tree_op, place1, right1), refl)
+          subst (λ (x : St). Still looped scope x) whole (λ m. refl, λ m n. (arithmetic_is tree_op, place1, right1), refl)
 
       update_still : (at : Pos) (tree_op : ArithmeticOp) (e v : Option TreeEx) (t : St) → update_statement text s at tree_op e v ≡ Some t → Still looped scope t
       update_still at tree_op None v t is = absurd (none_some is)
@@ -355,7 +363,7 @@ module _ (T : Table) (text : List ℕ) (p : Program) (all : List Site) (has : Ha
           by (Array n u) l found is1 = absurd (none_some is1)
           by (Pointer u) l found is1 = absurd (none_some is1)
           by (Slice u) l found is1 = absurd (none_some is1)
-          by Int l found is1 = subst (λ (y : St). Still looped scope y) (same_some is1) (refl, λ m n. (steps, subst (λ (x : TypeTree). PlFits p scope x l) (int_tree T formed) (own_fits e Int l found)), refl)
+          by Int l found is1 = subst (λ (y : St). Still looped scope y) (same_some is1) (λ m. refl, λ m n. (steps, subst (λ (x : TypeTree). PlFits p scope x l) (int_tree T formed) (own_fits e Int l found)), refl)
 
       call_still : (e : TreeEx) (t : St) → Within p all (with_strings s (strings_in (gives text s e))) → option_and_then (expressed (length s.strings)) (gives text s e) ≡ Some t → Still looped scope t
       call_still e t within is =
@@ -375,7 +383,7 @@ module _ (T : Table) (text : List ℕ) (p : Program) (all : List Site) (has : Ha
       call_formed : (e : TreeEx) (t : St) → Still looped scope t → StFormed looped s scope (behind_simple text s (tree.express e)) t × Visible (behind_simple text s (tree.express e)) (scope_after scope t)
       call_formed e t f =
           let strings1 = strings_in (gives text s e) in (
-            record { count = omega (arith, f.0); fit = λ n le. f.1 (length s.sites) n },
+            record { more = omega arith; upto = no_later (length s.sites) t f.0; fit = λ n le. f.1 (length s.sites) n },
             subst (λ (w : List ℕ). Visible (with_strings s strings1) w) (sym f.2) (visible_strings s scope strings1 visible),
           )
 

@@ -7,7 +7,7 @@ use Rattle.typed_syntax.specs.Value.{Value, int, IsOf}
 use Rattle.typed_syntax.specs.Words.{contents}
 use Rattle.typed_syntax.specs.Paths.{at_path}
 use Rattle.typed_syntax.specs.Syntax.{Ex, Left, Sts, blank, new, to, over_length, over_copy, over_pointer, over_pointed, range, argument_words, site_type, type_named}
-use Rattle.typed_syntax.specs.Form.{InScope, new_sites, scope_behind, LeftsFit, StFits, StsFit}
+use Rattle.typed_syntax.specs.Form.{InScope, lefts_after, scope_behind, LeftsFit, StFits, StsFit}
 use Rattle.frames.specs.Frames.{left_far, lefts_far, behind_values, lefts_need, lefts_reach, key_need, st_need, sts_need, st_reach, sts_reach, outgoing_of, temps_of}
 use Rattle.meaning.specs.Trace.{World}
 use Rattle.meaning.specs.Store.{value_of, born}
@@ -37,7 +37,7 @@ use Rattle.simulated_code.proofs.EvaluationEnds.{wide_need}
 use Rattle.simulated_code.proofs.EvaluationsFollow.{ev_follows}
 use Rattle.simulated_code.proofs.LeftsFollow.{together, left_types, landings, first_landing, land_one, lefts_follow}
 use Rattle.simulated_code.proofs.ReadyFollows.{ready_follow}
-use Rattle.simulated_code.proofs.Scopes.{Scoped, behind_has, behind_new, scoped_behind}
+use Rattle.simulated_code.proofs.Scopes.{Scoped, behind_has, lefts_from, behind_new, scoped_behind}
 use Rattle.simulated_code.proofs.ArrayRounds.{indexed_by, Tests, ArrayRound, array_tests, arrays_follow}
 use Rattle.simulated_code.proofs.ElementsFollow.{element_follows, pointed_follows as pointed_element}
 use Rattle.simulated_code.proofs.Leading.{After, after_later, inside, leads_inside, leads_holding, Leads, Followed, AllFollowed}
@@ -97,7 +97,7 @@ module _ (m : Built) (around : Setting) (types : around.types ≡ m.program.type
   pub indices_follow : (x : ℕ) (key : Left) (body : Sts) → AllFollowed m c calls around callees n body → (ws : Ways) (k : Env → Go) (held around_loop : List Kept) (h : ℕ) (looped : Bool) (outer scope : List ℕ) (q out again inside_at turn behind pc inner lo b : ℕ) (env : Env) (v : View) (w : World)
       → b ≤ suc n → length held ≡ h → inside_at ≡ inner + index_round_size m.program key → inside_at + sts_size m.program (argument_words c.func) c.func.named body ≡ turn
       → Placed x held h scope pc inner behind (index_round_code m.program (slots_of m.program m.placement c.func) key h inner) (sts_code m.program (argument_words c.func) c.func.named (slots_of m.program m.placement c.func) body (h + 1) behind turn inside_at)
-      → x < 2 ^ 63 → LeftsFit m.program scope q (c.func.first + c.func.count) (ints ∷ []) (key ∷ []) → StsFit m.program c.func.results (length c.func.named) true (scope_behind scope (key ∷ [])) (q + new_sites (key ∷ [])) (c.func.first + c.func.count) body
+      → x < 2 ^ 63 → LeftsFit m.program scope q (c.func.first + c.func.count) (ints ∷ []) (key ∷ []) → StsFit m.program c.func.results (length c.func.named) true (scope_behind scope (key ∷ [])) (lefts_after q (key ∷ [])) (c.func.first + c.func.count) body
       → h + 1 < temps_of m.program m.placement c.func → h + (1 + key_need m.program key) ≤ temps_of m.program m.placement c.func → h + 1 + sts_need m.program c.func.named body ≤ temps_of m.program m.placement c.func → lefts_reach m.program (key ∷ []) (sts_reach m.program body) ≤ outgoing_of m.program c.func
       → Scoped c.func scope q → Leads m c calls around_loop looped false outer scope out again lo b ws → ((u : ℕ) → After m c calls held scope behind lo b (Meaning.outside k u))
       → At m lo 0 b v (Meaning.turn (Meaning.births (λ u. Meaning.counted (suc n) 0 x (Meaning.index_round around callees (suc n) key (Meaning.exec_all around callees (suc n) body) ws (Meaning.outside k)) (Meaning.outside k) u env)) w) (Stands m v w (during c env scope held ∷ calls)) pc
@@ -136,11 +136,11 @@ module _ (m : Built) (around : Setting) (types : around.types ≡ m.program.type
           let ops = all_kept (left_types (key ∷ [])) (together uss) in
           let inside_room = lefts_room m.program (temps_of m.program m.placement c.func) (h + 1) (left_far key) (key ∷ []) rooms in
           subst (λ t. At m lo 0 d v2 t (Stands m v2 w2 (during c env1 scope (all ++ ops) ∷ calls)) start) (sym (land_one around key uss env1 env1 (int (pos i)) ws land w2 gives))
-          (lefts_follow m around sites_are (key ∷ []) (ints ∷ []) (int (pos i) ∷ []) held ops (all ++ ops) uss all [] c env1 env1 scope scope calls ws land v2 w2 q (q + new_sites (key ∷ [])) above (h + 1) h start lo d leads.panics (tt, tt)
+          (lefts_follow m around sites_are (key ∷ []) (ints ∷ []) (int (pos i) ∷ []) held ops (all ++ ops) uss all [] c env1 env1 scope scope calls ws land v2 w2 q (lefts_after q (key ∷ [])) above (h + 1) h start lo d leads.panics (tt, tt)
           hh (append_assoc held (kept ints (int (pos i))) ops) gives wide (ap (λ z. all ++ z) (sym (append-nil ops))) there has_k fl (omega arith) sc.from (omega arith) (λ y z. (z, refl, inl (sc.below y z))) (λ env2 w3 v3.
           place_is m (sym begins)
           (given m (λ y g. fewer m v3 w3 (during c env2 (scope_behind scope (key ∷ [])) all) calls y all ops g)
-          (body_follows body bodies ws k held around_loop h looped outer scope scope (scope_behind scope (key ∷ [])) q (q + new_sites (key ∷ [])) out again inside_at turn behind lo b d i u j env2 v3 w3 db le hh (front m.code c.fn inside_at cb counting has_b) fb body_room
+          (body_follows body bodies ws k held around_loop h looped outer scope scope (scope_behind scope (key ∷ [])) q (lefts_after q (key ∷ [])) out again inside_at turn behind lo b d i u j env2 v3 w3 db le hh (front m.code c.fn inside_at cb counting has_b) fb body_room
           (let others = lefts_others m.program (sts_reach m.program body) (key ∷ []) in omega arith) (scoped_behind m.program c.func scope q (c.func.first + c.func.count) (ints ∷ []) (key ∷ []) fl sc) turn_is (behind_has scope (key ∷ [])) leads
           (λ y. after_later m c calls held scope behind lo lo b d (Meaning.outside k y) (omega arith) db (left y)) go))))))
 
@@ -201,7 +201,7 @@ module _ (m : Built) (around : Setting) (types : around.types ≡ m.program.type
       → x < 2 ^ 63 → LeftsFit m.program inner q (c.func.first + c.func.count) (ints ∷ r ∷ []) (key ∷ value ∷ []) → StsFit m.program c.func.results (length c.func.named) true (scope_behind inner (key ∷ value ∷ [])) q1 (c.func.first + c.func.count) body
       → h + 1 < temps_of m.program m.placement c.func → h + 1 + lefts_need m.program (key ∷ value ∷ []) (max (1 + words) (behind_values (1 + words) (lefts_far (key ∷ value ∷ [])))) ≤ temps_of m.program m.placement c.func
       → h + 1 + sts_need m.program c.func.named body ≤ temps_of m.program m.placement c.func → lefts_reach m.program (key ∷ value ∷ []) (sts_reach m.program body) ≤ outgoing_of m.program c.func
-      → Scoped c.func (scope_behind inner (key ∷ value ∷ [])) q1 → c.func.first ≤ q → ((p : ℕ) → InScope p inner → (p < q) ⊎ (q + new_sites (key ∷ value ∷ []) ≤ p))
+      → Scoped c.func (scope_behind inner (key ∷ value ∷ [])) q1 → c.func.first ≤ q → ((p : ℕ) → InScope p inner → (p < q) ⊎ (lefts_after q (key ∷ value ∷ []) ≤ p))
       → Leads m c calls around_loop looped false outer scope out again lo b ws → ((u : ℕ) → After m c calls held inner behind lo b (Meaning.outside k u))
       → (Standing m.code c.fn (read_at key value entry) elem → lefts_above (key ∷ value ∷ []) (h + 1) + 1 + width r ≤ temps_of m.program m.placement c.func → Reads x r get ws held inner (read_at key value entry) (lefts_above (key ∷ value ∷ []) (h + 1)) count lo b)
       → At m lo 0 b v (Meaning.turn (Meaning.births (λ u. Meaning.counted (suc n) 0 x (Meaning.reading_round around callees (suc n) get key value (Meaning.exec_all around callees (suc n) body) ws (Meaning.outside k)) (Meaning.outside k) u env)) w) (Stands m v w (during c env inner held ∷ calls)) start
@@ -263,7 +263,7 @@ module _ (m : Built) (around : Setting) (types : around.types ≡ m.program.type
           reads (front m.code c.fn start1 elem lands has_e) (omega (arith, same)) i env1 v2 w2 ops d (λ y. Meaning.land_all around (landings env1 ls uss) (int (pos i) ∷ y ∷ []) ws env1 land) l db there (λ y typed.
           let both = all_kept (ints ∷ r ∷ []) (int (pos i) ∷ y ∷ []) in
           let beside : (ahead ++ first) ++ kept r y ≡ ahead ++ both = ap (λ z. (ahead ++ first) ++ z) (sym (all_kept_one r y typed)) ∙ sym (more_kept ahead ints (r ∷ []) (int (pos i)) (y ∷ []) tt) in
-          lefts_follow m around sites_are ls (ints ∷ r ∷ []) (int (pos i) ∷ y ∷ []) ahead [] ((ahead ++ first) ++ kept r y) uss all both c env1 env1 inner inner calls ws land v2 w2 q (q + new_sites ls) (above + 1 + width r) (h + 1) above (start1 + count) lo d leads.panics (tt, (typed, tt))
+          lefts_follow m around sites_are ls (ints ∷ r ∷ []) (int (pos i) ∷ y ∷ []) ahead [] ((ahead ++ first) ++ kept r y) uss all both c env1 env1 inner inner calls ws land v2 w2 q (lefts_after q ls) (above + 1 + width r) (h + 1) above (start1 + count) lo d leads.panics (tt, (typed, tt))
           there (beside ∙ ap (λ z. ahead ++ z) (sym (append-nil both))) gives wide (beside ∙ append_assoc all ops both) (one_more (ahead ++ first) r y (above + 1) (width r) (one_more ahead ints (int (pos i)) above 1 there refl) refl) has_k fl (omega (arith, same)) from (omega arith)
           (λ p z. (z, refl, keeping p z)) (λ env2 w3 v3.
           place_is m (sym begins)
@@ -274,19 +274,19 @@ module _ (m : Built) (around : Setting) (types : around.types ≡ m.program.type
 
   -- of a copy
   pub copies_follow : (site : ℕ) (e : Ex) (x : ℕ) (key value : Left) (body : Sts) → AllFollowed m c calls around callees n body → Followed m c calls around callees n (range (over_copy site e x) key value body)
-  copies_follow site e x key value body bodies ws env k v w held h looped outer scope q out again pc lo b le hh has (r, is, some, small, next_site, top, fe, fl, fb) enough reaches sc leads post =
+  copies_follow site e x key value body bodies ws env k v w held h looped outer scope q out again pc lo b le hh has (r, is, some, small, (behind_lefts, top, declared), fe, fl, fb) enough reaches sc leads post =
       ev_follows m around types inputs sites_are callees n cf e (array_of x r) (during c env scope held) calls ws _ v w h pc lo b le hh leads.panics (front m.code c.fn pc ce (copy ++ rounds) has) fe (omega arith) (omega arith) (λ y w1 v1 iv.
       let t = array_of x r in let n1 = width (site_type m.program site) in let solid = m.solid site in let c0 = during c env scope (held ++ kept t y) in
-      let same : n1 ≡ width t = ap width is in let from = sc.from in
+      let same : n1 ≡ width t = ap width is in let from = sc.from in let up = ascends in
       let cell = Meaning.new_cell ws.call site (Meaning.site_type around site) y in let kind = cell_kind m around sites_are site in
       let home = with_home env site (length w1.store) in
       turned m {lo1 = suc (suc lo)} (omega arith)
-      (births_filled m {lo = lo} {hi = 0} c0 calls v1 w1 site (pc + size m.program e) h cell has_m.0.0 has_m.1.0.0 (omega (arith, same, wide_need m scope t e fe)) (omega arith) (omega arith) kind (subst (λ o. IsOf o y) (sym (kind ∙ is)) iv)
+      (births_filled m {lo = lo} {hi = 0} c0 calls v1 w1 site (pc + size m.program e) h cell has_m.0.0 has_m.1.0.0 (omega (arith, same, wide_need m scope t e fe)) (omega arith) (omega arith) declared kind (subst (λ o. IsOf o y) (sym (kind ∙ is)) iv)
       (λ u g. subst (λ o. Stand m.program m.leading v1.homes u.hi w1 (leaves o) (contents y) (words_at u.words (temp s h) n1)) (sym (kind ∙ is)) (last_stand m v1 w1 (during c env scope held) calls u held t y h n1 hh same g))
       (λ v2.
       given m (λ u g. fewer m v2 (born w1 cell) (during c home (site ∷ scope) held) calls u held (kept t y) g)
       (place_is m there
-      (elements_follow x r key value body bodies (Meaning.read_copied site) elem 4 words ws k held held h looped outer scope (site ∷ scope) q (q + new_sites ls + 1) out again turn behind start (start + 4) lo b home v2 (born w1 cell) le hh refl words_are refl (array_placed x small held h hh (omega arith) (site ∷ scope) start behind _ _ has_rounds) small fl fb
+      (elements_follow x r key value body bodies (Meaning.read_copied site) elem 4 words ws k held held h looped outer scope (site ∷ scope) q (suc site) out again turn behind start (start + 4) lo b home v2 (born w1 cell) le hh refl words_are refl (array_placed x small held h hh (omega arith) (site ∷ scope) start behind _ _ has_rounds) small fl fb
       (omega arith) (omega arith) (omega arith) (omega arith) scoped sc.from (λ p z. elim z [ inl o ↦ inr (omega arith) | inr o ↦ inl (sc.below p o) ]) leads left
       (λ stands room i env2 v3 w2 ready d g l db above to.
       later m {lo = suc (suc (suc (suc lo)))} {hi = 1} {b = d} (omega arith) (omega arith) (omega arith) (read_of m _ _ _
@@ -345,14 +345,17 @@ module _ (m : Built) (around : Setting) (types : around.types ≡ m.program.type
       left : (u : ℕ) → After m c calls held (site ∷ scope) behind lo b (Meaning.outside k u)
       left u env1 w1 v1 = given m (λ p g. narrowed m.program m.placement m.max m.leading v1 w1 (hold c held) calls p env1 (site ∷ scope) scope (λ y i. inr i) g) (behind_loop u env1 w1 v1)
 
-      scoped : Scoped c.func (scope_behind (site ∷ scope) ls) (q + new_sites ls + 1)
+      ascends : q ≤ lefts_after q ls
+      ascends = lefts_from m.program (site ∷ scope) q (c.func.first + c.func.count) (ints ∷ r ∷ []) ls fl
+
+      scoped : Scoped c.func (scope_behind (site ∷ scope) ls) (suc site)
       scoped = record {
         named = λ u i. behind_has (site ∷ scope) ls u (inr (sc.named u i));
         below = λ u i. elim (behind_new m.program (site ∷ scope) (site ∷ scope) q (c.func.first + c.func.count) (ints ∷ r ∷ []) ls fl u i) [
-          | inl j ↦ elim j [ inl y ↦ omega arith | inr y ↦ (let l = sc.below u y in omega arith) ]
+          | inl j ↦ elim j [ inl y ↦ omega arith | inr y ↦ (let l = sc.below u y in let up = ascends in omega arith) ]
           | inr l ↦ (let l1 = l.1 in omega arith)
         ];
-        from = let l = sc.from in omega arith;
+        from = let l = sc.from in let up = ascends in omega arith;
       }
 
   -- of an array that a pointer leads to, which is held below the index; the first element that is read tells that it leads somewhere
@@ -365,7 +368,7 @@ module _ (m : Built) (around : Setting) (types : around.types ≡ m.program.type
   pointers_reach from e x t key value body bodies ws env k v w held h looped outer scope q out again pc lo b le hh has (a, is, some, small, used, fe, fl, fb) enough reaches sc leads post =
       ev_follows m around types inputs sites_are callees n cf e (pointer_to a) (during c env scope held) calls ws _ v w h pc lo b le hh leads.panics (front m.code c.fn pc ce rounds has) fe (omega arith) (omega arith) (λ y w1 v1 iy.
       let more = held ++ kept (pointer_to a) y in let long = one_more held (pointer_to a) y h 1 hh refl in
-      elements_follow x r key value body bodies (Meaning.read_pointed from y) elem 3 (width r) (Meaning.holding ws e y) k more held (h + 1) looped outer scope scope q (q + new_sites ls) out again turn behind start (start + 4) lo b env v1 w1 le long refl (λ z. refl) refl (array_placed x small more (h + 1) long (omega arith) scope start behind _ _ has_rounds) small fl fb
+      elements_follow x r key value body bodies (Meaning.read_pointed from y) elem 3 (width r) (Meaning.holding ws e y) k more held (h + 1) looped outer scope scope q (lefts_after q ls) out again turn behind start (start + 4) lo b env v1 w1 le long refl (λ z. refl) refl (array_placed x small more (h + 1) long (omega arith) scope start behind _ _ has_rounds) small fl fb
       (omega arith) (omega arith) (omega arith) (omega arith) (scoped_behind m.program c.func scope q (c.func.first + c.func.count) (ints ∷ r ∷ []) ls fl sc) sc.from (λ p z. inl (sc.below p z)) (leads_holding m c calls e y leads)
       (λ u env1 w2 v2. given m (λ p g. fewer m v2 w2 (during c env1 scope held) calls p held (kept (pointer_to a) y) g) (seen m _ (place_is m ends (post env1 w2 v2))))
       (λ stands room i env2 v3 w2 ready d g l db above to.

@@ -6,7 +6,7 @@ use Rattle.std.proofs.lemmas.List.{length-replicate, take_at, drop_at}
 use Rattle.typed_syntax.specs.Types.{ints, pointer_to, width}
 use Rattle.typed_syntax.specs.Value.{pointer, IsOf, words, zero_of}
 use Rattle.typed_syntax.specs.Words.{part_address, contents}
-use Rattle.typed_syntax.specs.Syntax.{type_named, site_type}
+use Rattle.typed_syntax.specs.Syntax.{type_named, site_type, is_made}
 use Rattle.value_laws.proofs.Parts.{words_count, count_of}
 use Rattle.value_laws.proofs.Zeros.{zero_is}
 use Rattle.meaning.specs.Trace.{World, Cell, Trace, HeapLimit, Born, Note}
@@ -67,13 +67,13 @@ module _ (m : Built) where
 
   -- the instruction that bears the variable there, and one that gives it words which the first leaves as they are
   pub births_in_two : {lo hi b : ℕ} {rest : Trace} {G G1 : Memory → Type 0} (c : Frame) (calls : List Frame) (v : View) (w : World) (site n pc : ℕ) (cell : Cell) (i : Instr) (xs : Memory → List ℕ) → m.placement.on_heap site ≡ false
-      → slice_get m.code.instrs pc ≡ Some (Instruction.Born (site_slot (slots_of m.program m.placement c.func) site) (width (site_type m.program site)) site) → slice_get m.code.instrs (pc + 1) ≡ Some i → c.func.first ≤ site → site < c.func.first + c.func.count
+      → slice_get m.code.instrs pc ≡ Some (Instruction.Born (site_slot (slots_of m.program m.placement c.func) site) (width (site_type m.program site)) site) → slice_get m.code.instrs (pc + 1) ≡ Some i → c.func.first ≤ site → site < c.func.first + c.func.count → is_made m.program site ≡ false
       → cell.type ≡ site_type m.program site → IsOf cell.type cell.value → ((s : Memory) → G s → Stands m v w (c ∷ calls) s)
       → ((s : Memory) → G s → (xs (cleared c site s) ≡ xs s) × (does_at m i (pc + 1) (cleared c site s) ≡ Goes [] (state_of m (pc + 1 + 1) (puts (cleared c site s) (site_slot (slots_of m.program m.placement c.func) site) (xs (cleared c site s))))))
       → ((s : Memory) → G s → Stand m.program m.leading v.homes s.hi w (leaves cell.type) (contents cell.value) (xs s))
       → ((s : Memory) → G s → Stands m (after_stack v (depth m.program m.placement (c ∷ calls) - site_slot (slots_of m.program m.placement c.func) site)) (born w cell) (grown c site (length w.store) ∷ calls) (puts s (site_slot (slots_of m.program m.placement c.func) site) (xs s)) → G1 (puts s (site_slot (slots_of m.program m.placement c.func) site) (xs s)))
       → At m lo hi b (after_stack v (depth m.program m.placement (c ∷ calls) - site_slot (slots_of m.program m.placement c.func) site)) rest G1 (pc + 1 + 1) → At m (suc (suc lo)) 1 b v (Note (Born site n) rest) G pc
-  births_in_two {lo} {hi} {b} {rest} {G} {G1} c calls v w site n pc cell i xs stays bears here first last kind is stands does stand keeps post =
+  births_in_two {lo} {hi} {b} {rest} {G} {G1} c calls v w site n pc cell i xs stays bears here first last declared kind is stands does stand keeps post =
       knowing m (λ s0 g0.
       stepped m {lo = suc lo} {hi = 1} {b = b} {G1 = λ u. (s : Memory) × G s × (u ≡ cleared c site s)} (Instruction.Born slot (width (site_type m.program site)) site) (cleared c site) bears (λ s g. (refl, refl, (s, g, refl)))
       (stepped_as m {lo = lo} {hi = hi} {b = b} {v1 = after_stack v d} {t1 = rest} i (λ u. puts u slot (xs u)) here
@@ -102,7 +102,7 @@ module _ (m : Built) where
           subst (λ x. (does_at m i (pc + 1) x ≡ Goes [] (state_of m (pc + 1 + 1) (puts x slot (xs x)))) × (range_of m x ≡ range_of m (puts x slot (xs x))) × G1 (puts x slot (xs x))) (sym e) (
             (does s g).1,
             refl,
-            subst G1 (sym (twice s g)) (keeps s g (birth m.program m.placement m.max m.leading m.solid v w c calls s site d cell (xs s) stays first last refl kind is (stand s g) (stands s g))),
+            subst G1 (sym (twice s g)) (keeps s g (birth m.program m.placement m.max m.leading m.solid v w c calls s site d cell (xs s) stays first last declared refl kind is (stand s g) (stands s g))),
           )
 
   -- temps lie below the slots and the cells of sites
@@ -182,15 +182,15 @@ module _ (m : Built) where
           )
 
   -- a site's cell is among the words
-  pub cell_room : (c : Frame) (calls : List Frame) (v : View) (w : World) (s : Memory) (site : ℕ) → m.placement.on_heap site ≡ true → c.func.first ≤ site → site < c.func.first + c.func.count → Stands m v w (c ∷ calls) s → cell_slot (slots_of m.program m.placement c.func) site < length s.words
-  cell_room c calls v w s site boxed first last g = let inside = cell_inside m.program m.placement c.func site boxed first last in let u = g.sized.used in omega (arith, inside.1)
+  pub cell_room : (c : Frame) (calls : List Frame) (v : View) (w : World) (s : Memory) (site : ℕ) → m.placement.on_heap site ≡ true → c.func.first ≤ site → site < c.func.first + c.func.count → is_made m.program site ≡ false → Stands m v w (c ∷ calls) s → cell_slot (slots_of m.program m.placement c.func) site < length s.words
+  cell_room c calls v w s site boxed first last declared g = let inside = cell_inside m.program m.placement c.func site boxed declared first last in let u = g.sized.used in omega (arith, inside.1)
 
   -- the site has the variable when its words hold the value
-  pub boxed_birth : (c : Frame) (calls : List Frame) (v : View) (w : World) (s : Memory) (site n : ℕ) (cell : Cell) (xs : List ℕ) → m.placement.on_heap site ≡ true → c.func.first ≤ site → site < c.func.first + c.func.count → n ≡ width (site_type m.program site) → v.heap + n ≤ m.heap_max
+  pub boxed_birth : (c : Frame) (calls : List Frame) (v : View) (w : World) (s : Memory) (site n : ℕ) (cell : Cell) (xs : List ℕ) → m.placement.on_heap site ≡ true → c.func.first ≤ site → site < c.func.first + c.func.count → is_made m.program site ≡ false → n ≡ width (site_type m.program site) → v.heap + n ≤ m.heap_max
       → cell.type ≡ site_type m.program site → IsOf cell.type cell.value → Stand m.program m.leading v.homes s.hi w (leaves cell.type) (contents cell.value) xs → Stands m v w (c ∷ calls) s
       → Stands m (after_apart v n) (born w cell) (grown c site (length w.store) ∷ calls) (new_words (cell_slot (slots_of m.program m.placement c.func) site) v.heap xs s)
-  boxed_birth c calls v w s site n cell xs boxed first last wide room kind is st g =
-      let most = m.heap_roomy in box_birth m.program m.placement m.max m.leading v w c calls s site n cell xs boxed first last (wide ∙ ap width (sym kind)) (omega arith) is kind st g
+  boxed_birth c calls v w s site n cell xs boxed first last declared wide room kind is st g =
+      let most = m.heap_roomy in box_birth m.program m.placement m.max m.leading v w c calls s site n cell xs boxed first last declared (wide ∙ ap width (sym kind)) (omega arith) is kind st g
 
   -- ---- in either place
 
@@ -210,10 +210,10 @@ module _ (m : Built) where
       (subst (λ x. Stand m.program m.leading homes hi w (leaves t) (contents x) (replicate (width t) 0)) (sym zero) (zero_stands m.program m.leading homes hi w t))
 
   -- a variable with the zero value, for which one instruction does
-  pub births_zero : {lo hi b : ℕ} {rest : Trace} (c : Frame) (calls : List Frame) (v : View) (w : World) (site pc : ℕ) (cell : Cell) → slice_get m.code.instrs pc ≡ Some (born_code (slots_of m.program m.placement c.func) site) → c.func.first ≤ site → site < c.func.first + c.func.count
+  pub births_zero : {lo hi b : ℕ} {rest : Trace} (c : Frame) (calls : List Frame) (v : View) (w : World) (site pc : ℕ) (cell : Cell) → slice_get m.code.instrs pc ≡ Some (born_code (slots_of m.program m.placement c.func) site) → c.func.first ≤ site → site < c.func.first + c.func.count → is_made m.program site ≡ false
       → cell.type ≡ site_type m.program site → cell.value ≡ zero_of (site_type m.program site) → ((v1 : View) → At m lo hi b v1 rest (Stands m v1 (born w cell) (grown c site (length w.store) ∷ calls)) (pc + 1))
       → At m (suc lo) 1 b v (Note (Born site (words cell.value)) rest) (Stands m v w (c ∷ calls)) pc
-  births_zero {lo} {hi} {b} {rest} c calls v w site pc cell bears first last kind zero post = by (m.placement.on_heap site) refl bears
+  births_zero {lo} {hi} {b} {rest} c calls v w site pc cell bears first last declared kind zero post = by (m.placement.on_heap site) refl bears
     where
       n : ℕ
       n = width (site_type m.program site)
@@ -238,20 +238,20 @@ module _ (m : Built) where
           knowing m (λ s0 g0.
           stepped_as m {lo = lo} {hi = hi} {b = b} {v1 = after_stack v d} {t1 = rest} {G1 = Stands m (after_stack v d) (born w cell) (grown c site (length w.store) ∷ calls)} (Instruction.Born slot n site) (λ s. puts s slot (replicate n 0)) here
           (λ r. birth_seen m v w c calls s0 site (words cell.value) r rest stays g0)
-          (λ s g. (refl, refl, birth m.program m.placement m.max m.leading m.solid v w c calls s site d cell (replicate n 0) stays first last refl kind is (stand s) g)) (post (after_stack v d)))
+          (λ s g. (refl, refl, birth m.program m.placement m.max m.leading m.solid v w c calls s site d cell (replicate n 0) stays first last declared refl kind is (stand s) g)) (post (after_stack v d)))
       by true boxed here =
           subst (λ k. At m (suc lo) 1 b v (Note (Born site k) rest) (Stands m v w (c ∷ calls)) pc) (sym (words_are site cell kind is))
           (births_apart {lo = lo} {hi = hi} {b = b} {rest = rest} {G = Stands m v w (c ∷ calls)} {G1 = Stands m (after_apart v n) (born w cell) (grown c site (length w.store) ∷ calls)} v site n box pc here boxed (λ s g. g.sized.heap_used)
-          (λ fits s g. boxed_birth c calls v w s site n cell (replicate n 0) boxed first last refl fits kind is (stand s) g) (λ fits. post (after_apart v n)))
+          (λ fits s g. boxed_birth c calls v w s site n cell (replicate n 0) boxed first last declared refl fits kind is (stand s) g) (λ fits. post (after_apart v n)))
 
   -- one that gets its value from temps, by another instruction
   pub births_filled : {lo hi b : ℕ} {rest : Trace} (c : Frame) (calls : List Frame) (v : View) (w : World) (site pc h : ℕ) (cell : Cell)
       → slice_get m.code.instrs pc ≡ Some (born_code (slots_of m.program m.placement c.func) site) → slice_get m.code.instrs (pc + 1) ≡ Some (fill_code (slots_of m.program m.placement c.func) site h)
-      → h + width (site_type m.program site) ≤ temps_of m.program m.placement c.func → c.func.first ≤ site → site < c.func.first + c.func.count → cell.type ≡ site_type m.program site → IsOf cell.type cell.value
+      → h + width (site_type m.program site) ≤ temps_of m.program m.placement c.func → c.func.first ≤ site → site < c.func.first + c.func.count → is_made m.program site ≡ false → cell.type ≡ site_type m.program site → IsOf cell.type cell.value
       → ((s : Memory) → Stands m v w (c ∷ calls) s → Stand m.program m.leading v.homes s.hi w (leaves cell.type) (contents cell.value) (words_at s.words (temp (slots_of m.program m.placement c.func) h) (width (site_type m.program site))))
       → ((v1 : View) → At m lo hi b v1 rest (Stands m v1 (born w cell) (grown c site (length w.store) ∷ calls)) (pc + 1 + 1))
       → At m (suc (suc lo)) 1 b v (Note (Born site (words cell.value)) rest) (Stands m v w (c ∷ calls)) pc
-  births_filled {lo} {hi} {b} {rest} c calls v w site pc h cell bears fills room first last kind is stand post = by (m.placement.on_heap site) refl bears fills
+  births_filled {lo} {hi} {b} {rest} c calls v w site pc h cell bears fills room first last declared kind is stand post = by (m.placement.on_heap site) refl bears fills
     where
       n : ℕ
       n = width (site_type m.program site)
@@ -277,7 +277,7 @@ module _ (m : Built) where
       by : (boxed : Bool) → m.placement.on_heap site ≡ boxed → slice_get m.code.instrs pc ≡ Some (if boxed then Alloc box n site else Instruction.Born slot n site) → slice_get m.code.instrs (pc + 1) ≡ Some (fill (if boxed then by_address box else in_slots slot) n from)
           → At m (suc (suc lo)) 1 b v (Note (Born site (words cell.value)) rest) Before pc
       by false stays born_here fill_here =
-          births_in_two {lo = lo} {hi = hi} {b = b} {rest = rest} {G = Before} {G1 = After (after_stack v d)} c calls v w site (words cell.value) pc cell (Move Silent slot from n) (λ u. words_at u.words from n) stays born_here fill_here first last kind is (λ u g. g)
+          births_in_two {lo = lo} {hi = hi} {b = b} {rest = rest} {G = Before} {G1 = After (after_stack v d)} c calls v w site (words cell.value) pc cell (Move Silent slot from n) (λ u. words_at u.words from n) stays born_here fill_here first last declared kind is (λ u g. g)
           (λ u g. (
             (let there = site_room c calls v w u site stays first last g in read_below u.words from n slot (replicate n 0) (below_sites c site h n room) (omega (arith, there))),
             refl,
@@ -285,8 +285,8 @@ module _ (m : Built) where
           stand (λ u g k. k) (post (after_stack v d))
       by true boxed born_here fill_here =
           subst (λ k. At m (suc (suc lo)) 1 b v (Note (Born site k) rest) Before pc) (sym (words_are site cell kind is))
-          (births_apart_filled {lo = lo} {hi = hi} {b = b} {rest = rest} {G = Before} {G1 = After (after_apart v n)} v site n box from pc born_here fill_here boxed (λ s g. g.sized.heap_used) (below_cells c site h n room) (λ s g. cell_room c calls v w s site boxed first last g)
-          (λ fits s g. boxed_birth c calls v w s site n cell (words_at s.words from n) boxed first last refl fits kind is (stand s g) g) (post (after_apart v n)))
+          (births_apart_filled {lo = lo} {hi = hi} {b = b} {rest = rest} {G = Before} {G1 = After (after_apart v n)} v site n box from pc born_here fill_here boxed (λ s g. g.sized.heap_used) (below_cells c site h n room) (λ s g. cell_room c calls v w s site boxed first last declared g)
+          (λ fits s g. boxed_birth c calls v w s site n cell (words_at s.words from n) boxed first last declared refl fits kind is (stand s g) g) (post (after_apart v n)))
 
   -- ---- a variable without a name, to which a pointer leads
 

@@ -21,7 +21,7 @@ use Rattle.machine.specs.Machine.{put_words, words_at}
 use Rattle.typed_syntax.specs.Types.{TypeTree, width}
 use Rattle.typed_syntax.specs.Words.{Content, contents}
 use Rattle.value_laws.proofs.Parts.{words_count, count_of}
-use Rattle.typed_syntax.specs.Syntax.{each_width, all_width, site_type}
+use Rattle.typed_syntax.specs.Syntax.{each_width, all_width, site_type, is_made}
 use Rattle.state_relation.specs.Leaves.{leaves, all_leaves}
 use Rattle.state_relation.specs.Views.{Place, View, born_at, born_apart, after_stack, after_apart}
 use Rattle.state_relation.specs.Relation.{Memory, puts, Frame, during, grown, Stand, contents_of, depth, word_at}
@@ -71,7 +71,7 @@ module _ (m : Built) (around : Setting) (sites_are : around.sites ≡ m.program.
 
   -- one parameter, which gets the incoming words from i on
   module _ (site i pc lo b : ℕ) (t : TypeTree) (x : Value) (ls : List TypeTree) (cs : List Content) (env : Env) (scope : List ℕ) (entry : ℕ) (k : Env → Go) (v : View) (w : World) (rest : List Instr) (typed : IsOf t x) (of_site : site_type m.program site ≡ t)
-      (from : c.func.first ≤ site) (to : site < c.func.first + c.func.count) (room : i + width t ≤ room_of m calls) (temps : (if m.placement.on_heap site then width t else 0) ≤ temps_of m.program m.placement c.func) where
+      (from : c.func.first ≤ site) (to : site < c.func.first + c.func.count) (declared : is_made m.program site ≡ false) (room : i + width t ≤ room_of m calls) (temps : (if m.placement.on_heap site then width t else 0) ≤ temps_of m.program m.placement c.func) where
     abbrev cell : Cell
     cell = Meaning.new_cell entry site (Meaning.site_type around site) x
 
@@ -135,7 +135,7 @@ module _ (m : Built) (around : Setting) (sites_are : around.sites ≡ m.program.
         → ((v1 : View) → At m lo 0 b v1 (k env1 (born w cell)) (After v1) (pc + 1 + 1)) → At m (suc (suc lo)) 1 b v (Note (Born site (words x)) (k env1 (born w cell))) Before pc
     in_slots_follows stays has post =
         births_in_two m {lo = lo} {hi = 0} {G1 = After (after_stack v d)} c0 calls v w site (words x) pc cell (Incoming ToSlots slot i n) coming stays
-        (has.0.0 ∙ ap (λ (boxed : Bool). Some (if boxed then Alloc box (width (site_type m.program site)) site else Instruction.Born slot (width (site_type m.program site)) site)) stays) has.1.0.0 from to kind is (λ u g. g.0)
+        (has.0.0 ∙ ap (λ (boxed : Bool). Some (if boxed then Alloc box (width (site_type m.program site)) site else Instruction.Born slot (width (site_type m.program site)) site)) stays) has.1.0.0 from to declared kind is (λ u g. g.0)
         (λ u g.
         let within = site_room m c0 calls v w u site stays from to g.0 in let above = inside in
         let kept : length (put_words u.words slot zeros) ≡ length u.words = put_length u.words slot zeros (omega (arith, within, many)) in (
@@ -193,10 +193,10 @@ module _ (m : Built) (around : Setting) (sites_are : around.sites ≡ m.program.
         below = below_cells m c site 0 n fit
 
         inside : box + 3 ≤ frame
-        inside = let r = cell_inside m.program m.placement c.func site boxed from to in omega (arith, r.1)
+        inside = let r = cell_inside m.program m.placement c.func site boxed declared from to in omega (arith, r.1)
 
         within : (s : Memory) → Before s → box < length s.words
-        within s g = cell_room m c0 calls v w s site boxed from to g.0
+        within s g = cell_room m c0 calls v w s site boxed from to declared g.0
 
         put_long : (s : Memory) → Before s → length (coming s) ≡ n
         put_long s g = (first s g).0.long ∙ leaves_length t
@@ -225,7 +225,7 @@ module _ (m : Built) (around : Setting) (sites_are : around.sites ≡ m.program.
               refl,
               subst (After (after_apart v n)) (sym filled) (
                 good_free m.program m.placement m.max m.leading (after_apart v n) (born w cell) (grown c0 site (length w.store)) calls (new_words m box v.heap (coming s) s) low (coming s) (inl (omega arith, omega (arith, put, fit)))
-                    (boxed_birth m c0 calls v w s site n cell (coming s) boxed from to (sym wide) room_left kind is (stand s g) g.0),
+                    (boxed_birth m c0 calls v w s site n cell (coming s) boxed from to declared (sym wide) room_left kind is (stand s g) g.0),
                 passes s (puts (new_words m box v.heap (coming s) s) low (coming s)) (after_apart v n) (apart_later v.homes v.births v.heap w cell g.0.homed.births) refl
                     (λ d le. let long_enough = g.0.sized.used in
                     put_other ws low (coming s) d (omega (arith, kept, there, below, put)) (inr (omega (arith, kept, there, below, put, inside, long_enough, le)))
@@ -258,7 +258,7 @@ module _ (m : Built) (around : Setting) (sites_are : around.sites ≡ m.program.
       (params_follow ps ts vs env scope entry k v w q (i + width t) pc lo b typed.1 has fit from to (omega arith) temps post)
   params_follow (Some site ∷ ps) (t ∷ ts) (x ∷ vs) env scope entry k v w q i pc lo b typed has fit from to room temps post =
       let here = fit.0 in
-      param_follows site i pc lo b t x (all_leaves ts) (contents_of vs) env scope entry (λ env1. Meaning.bear_params around entry ps vs env1 k) v w (params_code (slots_of m.program m.placement c.func) (each_width ts) ps (i + width t)) typed.0 fit.1 (omega arith) (omega arith) (omega arith) (omega arith) has
+      param_follows site i pc lo b t x (all_leaves ts) (contents_of vs) env scope entry (λ env1. Meaning.bear_params around entry ps vs env1 k) v w (params_code (slots_of m.program m.placement c.func) (each_width ts) ps (i + width t)) typed.0 fit.2 (omega arith) (omega arith) fit.1 (omega arith) (omega arith) has
       (λ v1 pc1 at stands.
-      params_follow ps ts vs (with_home env site (length w.store)) (site ∷ scope) entry k v1 _ (suc q) (i + width t) pc1 lo b typed.1 stands fit.2 (omega arith) (omega arith) (omega arith) (omega arith)
+      params_follow ps ts vs (with_home env site (length w.store)) (site ∷ scope) entry k v1 _ (suc q) (i + width t) pc1 lo b typed.1 stands fit.3 (omega arith) (omega arith) (omega arith) (omega arith)
       (λ env1 w1 v2. place_is m (let e : pc + (param_size (m.placement.on_heap site) + params_size m.placement ps) ≡ pc1 + params_size m.placement ps = omega (arith, at) in e) (post env1 w1 v2)))

@@ -3,7 +3,7 @@ use Rattle.std.proofs.Common.{◌≡◌, inl, inr, ℕ, zero, suc, ◌+◌, ◌<
 use Rattle.std.specs.Prelude.{slice_get, slice_index, replicate, None, IfSome, FitsSigned, ◌||◌, if◌then◌else◌}
 use Rattle.std.specs.Int.{w64}
 use Rattle.typed_syntax.specs.Value.{Value, int, bool, IsOf, zero_of}
-use Rattle.typed_syntax.specs.Syntax.{Pl, type_in, type_named, Ex, Exs, Func, Program, constant, read, unary, binary, logical_and, logical_or, call, part_of, literal, address_of, results, read_int, wide, nil, new_variable, literal_variable, slice_literal, make, append, append_slice, copy, slicing, array_slicing, len, cap, Bound, absent, bound}
+use Rattle.typed_syntax.specs.Syntax.{Pl, type_named, Ex, Exs, Func, Program, constant, read, unary, binary, logical_and, logical_or, call, part_of, literal, address_of, results, read_int, wide, nil, new_variable, literal_variable, slice_literal, make, append, append_slice, copy, slicing, array_slicing, len, cap, Bound, absent, bound}
 use Rattle.typed_syntax.specs.Form.{IsPlain, AreOf, IsWord, PlFits, ExFits, ExsFit, IsNil, IsNilable, AreCompared, BoundFits}
 use Rattle.frames.specs.Frames.{far, place_need, place_reach, need, need_all, reach, reach_all, outgoing_of, temps_of, bound_need, bound_reach}
 use Rattle.meaning.specs.Trace.{World, Asked, Turn, Note}
@@ -110,7 +110,7 @@ module _ (m : Built) where
   wide_need scope t (call f es) fit = let r = wide_is m.program scope t (call f es) fit in omega (arith, r)
   wide_need scope t (part_of n i e) fit = let s = type_named m.program n in let l = wide_need scope s e fit.3 in let e = ap width fit.1 in let r = part_within s i fit.0 in omega arith
   wide_need scope t (literal n es) fit = let e = ap width fit.0 in omega arith
-  wide_need scope t (nil n) fit = let e = ap width fit.0 in omega arith
+  wide_need scope t (nil s) fit = let e = ap width fit.0 in omega arith
   wide_need scope t (address_of q) fit = let e = ap width fit.1 in omega arith
   wide_need scope t (new_variable site) fit = let e = ap width fit.1 in omega arith
   wide_need scope t (literal_variable site e) fit = let one = ap width fit.0.1 in omega arith
@@ -134,11 +134,11 @@ module _ (m : Built) where
   -- ---- comparisons
 
   nil_or : (e : Ex) → ((is_nil e ≡ true) × IsNil e) ⊎ ((is_nil e ≡ false) × (IsNil e → ⊥))
-  nil_or (nil number) = inl (refl, tt)
+  nil_or (nil t) = inl (refl, tt)
   nil_or e = inr (refl, λ is. is)
 
   nil_may : (scope : List ℕ) (s : TypeTree) (e : Ex) → IsNil e → ExFits m.program scope s e → IsNilable s
-  nil_may scope s (nil number) is fit = fit.1
+  nil_may scope s (nil t) is fit = fit.1
   nil_may scope s e is fit = absurd is
 
   -- so many words of two operands are compared
@@ -230,27 +230,26 @@ module _ (m : Built) where
               (good_read m.program m.placement m.max m.leading v w (c ∷ calls) s (suc w.reads) g),
         )) (seen m _ (post (Meaning.item_values item) w1 (item_types item)))))
 
-  module _ (around : Setting) (types : around.types ≡ m.program.types) (callees : Calls) where
+  module _ (around : Setting) (callees : Calls) where
     -- `nil`, whose words are zeros
-    pub nil_pays : (number : ℕ) (t : TypeTree) (c : Frame) (calls : List Frame) (ws : Ways) (k : Then Value) (v : View) (w : World) (h pc lo b : ℕ) → length c.held ≡ h → Standing m.code c.fn pc (ex_code m.program (slots_of m.program m.placement c.func) (nil number) h pc) → ExFits m.program c.scope t (nil number)
-        → h + need m.program (nil number) ≤ temps_of m.program m.placement c.func → At m (suc lo) 0 b v (k (zero_of t) w) (Stands m v w (hold c (c.held ++ kept t (zero_of t)) ∷ calls)) (pc + size m.program (nil number))
-        → At m lo 0 b v (Meaning.ev around callees (nil number) ws c.env k w) (Stands m v w (c ∷ calls)) pc
-    nil_pays number t c calls ws k v w h pc lo b hh has fit enough post =
-        let s = slots_of m.program m.placement c.func in let u = type_named m.program number in
-        let some : 0 < width u = subst (λ z. 0 < width z) (sym fit.0) (nilable_some t fit.1) in
-        subst (λ (those : List TypeTree). At m lo 0 b v (Turn (Meaning.give ws (nil number) k (zero_of (type_in those number)) w)) (Stands m v w (c ∷ calls)) pc) (sym types)
-        (turned m {lo1 = suc (suc lo)} (omega arith) (seen m _
+    pub nil_pays : (o t : TypeTree) (c : Frame) (calls : List Frame) (ws : Ways) (k : Then Value) (v : View) (w : World) (h pc lo b : ℕ) → length c.held ≡ h → Standing m.code c.fn pc (ex_code m.program (slots_of m.program m.placement c.func) (nil o) h pc) → ExFits m.program c.scope t (nil o)
+        → h + need m.program (nil o) ≤ temps_of m.program m.placement c.func → At m (suc lo) 0 b v (k (zero_of t) w) (Stands m v w (hold c (c.held ++ kept t (zero_of t)) ∷ calls)) (pc + size m.program (nil o))
+        → At m lo 0 b v (Meaning.ev around callees (nil o) ws c.env k w) (Stands m v w (c ∷ calls)) pc
+    nil_pays o t c calls ws k v w h pc lo b hh has fit enough post =
+        let s = slots_of m.program m.placement c.func in
+        let some : 0 < width o = subst (λ z. 0 < width z) (sym fit.0) (nilable_some t fit.1) in
+        turned m {lo1 = suc (suc lo)} (omega arith) (seen m _
         (later m {lo = suc (suc lo)} {hi = 1} {b = b} (omega arith) (omega arith) (omega arith)
-        (words_zeroed m {lo = suc lo} {hi = 0} {G1 = Stands m v w (hold c (c.held ++ kept u (zero_of u)) ∷ calls)} (width u) (temp s h) has.0.0 some
-        (λ r g. ((let long = g.sized.used in omega arith), value_put m v w c calls r h u (zero_of u) (replicate (width u) 0) hh enough (zero_stands m.program m.leading v.homes r.hi w u) g))
-        (subst (λ z. At m (suc lo) 0 b v (k (zero_of z) w) (Stands m v w (hold c (c.held ++ kept z (zero_of z)) ∷ calls)) (pc + 1)) (sym fit.0) post)))))
+        (words_zeroed m {lo = suc lo} {hi = 0} {G1 = Stands m v w (hold c (c.held ++ kept o (zero_of o)) ∷ calls)} (width o) (temp s h) has.0.0 some
+        (λ r g. ((let long = g.sized.used in omega arith), value_put m v w c calls r h o (zero_of o) (replicate (width o) 0) hh enough (zero_stands m.program m.leading v.homes r.hi w o) g))
+        (subst (λ z. At m (suc lo) 0 b v (k (zero_of z) w) (Stands m v w (hold c (c.held ++ kept z (zero_of z)) ∷ calls)) (pc + 1)) (sym fit.0) post))))
 
     -- an operand, of which is known whether it is `nil`
     pub operand_pays : (e : Ex) (t : TypeTree) (c : Frame) (calls : List Frame) (ws : Ways) (k : Then Value) (v : View) (w : World) (h pc lo b : ℕ) → length c.held ≡ h → Standing m.code c.fn pc (ex_code m.program (slots_of m.program m.placement c.func) e h pc) → ExFits m.program c.scope t e → h + need m.program e ≤ temps_of m.program m.placement c.func
         → (((x : Value) (w1 : World) (v1 : View) → IsOf t x → At m (suc lo) 0 b v1 (k x w1) (Stands m v1 w1 (hold c (c.held ++ kept t x) ∷ calls)) (pc + size m.program e)) → At m lo 0 b v (Meaning.ev around callees e ws c.env k w) (Stands m v w (c ∷ calls)) pc)
         → ((x : Value) (w1 : World) (v1 : View) → IsOf t x → (IsNil e → x ≡ zero_of t) → At m (suc lo) 0 b v1 (k x w1) (Stands m v1 w1 (hold c (c.held ++ kept t x) ∷ calls)) (pc + size m.program e))
         → At m lo 0 b v (Meaning.ev around callees e ws c.env k w) (Stands m v w (c ∷ calls)) pc
-    operand_pays (nil number) t c calls ws k v w h pc lo b hh has fit enough evaluates post = nil_pays number t c calls ws k v w h pc lo b hh has fit enough (post (zero_of t) w v (zero_is t) (λ is. refl))
+    operand_pays (nil o) t c calls ws k v w h pc lo b hh has fit enough evaluates post = nil_pays o t c calls ws k v w h pc lo b hh has fit enough (post (zero_of t) w v (zero_is t) (λ is. refl))
     operand_pays e t c calls ws k v w h pc lo b hh has fit enough evaluates post = evaluates (λ x w1 v1 ix. post x w1 v1 ix (λ is. absurd is))
 
 -- what is to be shown of expressions, each by those that it has

@@ -104,9 +104,9 @@ module _ (m : Built) (around : Setting) (types : around.types ≡ m.program.type
         let has_i = back m.code c.fn (pc + na) nd cd (i ∷ []) (length_code m.program s d (h + n) (pc + na)) has_d in
         let r = fit.0 in let count = wide_is m.program c.scope r a fit.2 in let takes = takes_some m.program c.scope o a d r t fit.1 fit.2 fit.3 in
         let some = some_need m c.scope r a takes fit.2 in let one = plain_one t (takes_gives o a d r t fit.1) in let has_a = front m.code c.fn pc ca (cd ++ i ∷ []) has in
-        operand_pays m around types callees a r c calls ws _ v w h pc lo b hh has_a fit.2 (omega arith) (ev_pays a r c calls ws _ v w h pc lo b le hh stops has_a fit.2 (omega arith) (omega arith)) (λ x w1 v1 ix nil_x. spared m (
+        operand_pays m around callees a r c calls ws _ v w h pc lo b hh has_a fit.2 (omega arith) (ev_pays a r c calls ws _ v w h pc lo b le hh stops has_a fit.2 (omega arith) (omega arith)) (λ x w1 v1 ix nil_x. spared m (
         let c1 = hold c (c.held ++ kept r x) in let wide_x = one_more c.held r x h n hh count in let has_2 = front m.code c.fn (pc + na) cd (i ∷ []) has_d in
-        operand_pays m around types callees d r c1 calls (Meaning.holding ws a x) _ v1 w1 (h + n) (pc + na) lo b wide_x has_2 fit.3 (omega arith) (ev_pays d r c1 calls (Meaning.holding ws a x) _ v1 w1 (h + n) (pc + na) lo b le wide_x stops has_2 fit.3 (omega arith) (omega arith)) (λ y w2 v2 iy nil_y. spared m (
+        operand_pays m around callees d r c1 calls (Meaning.holding ws a x) _ v1 w1 (h + n) (pc + na) lo b wide_x has_2 fit.3 (omega arith) (ev_pays d r c1 calls (Meaning.holding ws a x) _ v1 w1 (h + n) (pc + na) lo b le wide_x stops has_2 fit.3 (omega arith) (omega arith)) (λ y w2 v2 iy nil_y. spared m (
         let all = (c.held ++ kept r x) ++ kept r y in
         let under = λ (u : Memory) (g : Stands m v2 w2 (hold c all ∷ calls) u). fewer m v2 w2 c calls u (c.held ++ kept r x) (kept r y) g in
         turned m {lo1 = suc (suc lo)} (omega arith)
@@ -176,7 +176,7 @@ module _ (m : Built) (around : Setting) (types : around.types ≡ m.program.type
         ] refl has.1 enough (λ y w1 v1 iy.
         seen m _ (place_is m (let q : pc + (1 + elements_size m.program u (ascend es) es) ≡ pc + 1 + elements_size m.program u (ascend es) es = omega arith in q)
         (subst (λ z. At m (suc lo) 0 b v1 (k y w1) (Stands m v1 w1 (hold c (c.held ++ kept z y) ∷ calls)) (pc + (1 + elements_size m.program u (ascend es) es))) (sym fit.0) (post y w1 v1 (typed y iy)))))))))
-    ev_pays (nil number) t c calls ws k v w h pc lo b le hh stops has fit enough reaches post = nil_pays m around types callees number t c calls ws k v w h pc lo b hh has fit enough (post (zero_of t) w v (zero_is t))
+    ev_pays (nil o) t c calls ws k v w h pc lo b le hh stops has fit enough reaches post = nil_pays m around callees o t c calls ws k v w h pc lo b hh has fit enough (post (zero_of t) w v (zero_is t))
     ev_pays (new_variable site) t c calls ws k v w h pc lo b le hh stops has (number, is, named, taken) enough reaches post =
         let zero = Meaning.zero_of around site in let cell = Meaning.new_cell ws.call site (Meaning.site_type around site) zero in let y = pointer (length w.store) [] in
         turned m {lo1 = suc (suc lo)} (omega arith)

@@ -27,7 +27,7 @@ use Rattle.simulated_code.proofs.Standing.{Standing, front, back, standing, Pani
 use Rattle.simulated_code.proofs.Moves.{room_of, CallsFollow}
 use Rattle.simulated_code.proofs.ReturnsFollow.{Home, Given, Returns, home_returns}
 use Rattle.simulated_code.proofs.Scopes.{Scoped, with_has, with_below}
-use Rattle.simulated_code.proofs.LeftsFollow.{named_next, zeros_follow}
+use Rattle.simulated_code.proofs.LeftsFollow.{named_next, named_after, zeros_follow}
 use Rattle.simulated_code.proofs.Leading.{Leads}
 use Rattle.simulated_code.proofs.StatementsFollow.{all_follow}
 use Rattle.simulated_code.proofs.EntriesFollow.{params_follow}
@@ -45,7 +45,7 @@ params_below p scope q [] (o ∷ ps) fit below v i = absurd fit
 params_below p scope q (t ∷ ts) (None ∷ ps) fit below v i = params_below p scope q ts ps fit below v i
 params_below p scope q (t ∷ ts) (Some site ∷ ps) fit below v i =
     let e = fit.0 in
-    let l = params_below p (site ∷ scope) (suc q) ts ps fit.2 (λ u j. elim j [ inl r ↦ omega arith | inr r ↦ (let k = below u r in omega arith) ]) v i in omega arith
+    let l = params_below p (site ∷ scope) (suc q) ts ps fit.3 (λ u j. elim j [ inl r ↦ omega arith | inr r ↦ (let k = below u r in omega arith) ]) v i in omega arith
 
 -- no values of no types
 pub none_of : (ts : List TypeTree) → length ts ≡ 0 → AreOf ts []
@@ -102,13 +102,14 @@ module _ (m : Built) (around : Setting) (strings : around.strings ≡ m.program.
     no_sites : ends_all func.body ≡ false → func.named ≡ []
     no_sites goes = nil_from_length func.named (no_names goes)
 
-    next_named : SitesNext (func.first + named_params func.params) (func.first + func.count) func.named
+    next_named : SitesNext m.program (func.first + named_params func.params) (func.first + func.count) func.named
     next_named = let count = fit.count in named_next m.program (func.first + named_params func.params) (func.first + func.count) func.named fit.named (omega arith)
 
     scoped : Scoped func (scope_in func) (body_first func)
     scoped = record {
       named = named_in (params_scope [] func.params) func.named;
-      below = with_below (params_scope [] func.params) (func.first + named_params func.params) (func.first + func.count) func.named next_named (params_below m.program [] func.first func.param_types func.params fit.params (λ v i. absurd i));
+      below = λ v i. subst (λ k. v < k) (named_after m.program (func.first + named_params func.params) func.named fit.named)
+          (with_below m.program (params_scope [] func.params) (func.first + named_params func.params) (func.first + func.count) func.named next_named (params_below m.program [] func.first func.param_types func.params fit.params (λ u j. absurd j)) v i);
       from = omega arith;
     }
 

@@ -4,7 +4,7 @@ use Rattle.std.specs.Prelude.{slice_get}
 use Rattle.typed_syntax.specs.Positions.{Position}
 use Rattle.typed_syntax.specs.Value.{Value, IsOf}
 use Rattle.typed_syntax.specs.Syntax.{Pl, Steps, here as itself, inner, at_index, Left, Program, Ex, blank, new, to, local, global, indirect, slice_element, site_type, each_width}
-use Rattle.typed_syntax.specs.Form.{AreOf, InScope, new_sites, AllInScope, PlFits, LeftsFit, SitesNext, NamedFit, scope_behind, scope_with}
+use Rattle.typed_syntax.specs.Form.{AreOf, InScope, sites_after, lefts_after, AllInScope, PlFits, LeftsFit, SitesNext, NamedFit, scope_behind, scope_with}
 use Rattle.frames.specs.Frames.{far, lefts_far, widest, temps_of}
 use Rattle.meaning.specs.Trace.{World}
 use Rattle.meaning.specs.Store.{value_of, written, born}
@@ -22,6 +22,7 @@ use Rattle.state_relation.proofs.Changes.{home_other, narrowed}
 use Rattle.state_relation.proofs.Built.{Built}
 use Rattle.state_relation.proofs.Rules.{At, Stands, knowing, later, place_is, given, turned, seen, read_of, written_to}
 use Rattle.state_relation.proofs.Values.{kept, all_kept, all_kept_first, all_kept_joined, one_more, more_kept, fewer, held_none, held_stand}
+use Rattle.simulated_code.proofs.Scopes.{lefts_from}
 use Rattle.simulated_code.proofs.Standing.{Standing, front, back, Panics}
 use Rattle.simulated_code.proofs.Places.{variable_of, root_of, Operands, PlaceOperands, aimed, index_types, operand_types, place_operands_are, pointer_held, Located, located, place_held}
 use Rattle.simulated_code.proofs.Settled.{settled_follow}
@@ -69,9 +70,15 @@ land_one around (to q) [] first env v ws k w given = absurd given
 land_one around (to q) (us ∷ uss) first env v ws k w given = refl
 
 -- the sites of results with names are next
-pub named_next : (p : Program) (n limit : ℕ) (sites : List ℕ) → NamedFit p n sites → n + length sites ≤ limit → SitesNext n limit sites
+pub named_next : (p : Program) (n limit : ℕ) (sites : List ℕ) → NamedFit p n sites → n + length sites ≤ limit → SitesNext p n limit sites
 named_next p n limit [] fit le = tt
-named_next p n limit (site ∷ sites) fit le = (fit.0, omega arith, named_next p (suc n) limit sites fit.1 (omega arith))
+named_next p n limit (site ∷ sites) fit le =
+    let here = fit.0 in ((omega arith, omega arith, fit.1), subst (λ k. SitesNext p (suc k) limit sites) (sym here) (named_next p (suc n) limit sites fit.2 (omega arith)))
+
+-- and the number that may come after them is the next one
+pub named_after : (p : Program) (n : ℕ) (sites : List ℕ) → NamedFit p n sites → sites_after n sites ≡ n + length sites
+named_after p n [] fit = omega arith
+named_after p n (site ∷ sites) fit = let here = ap (λ k. sites_after (suc k) sites) fit.0 in let rest = named_after p (suc n) sites fit.2 in omega arith
 
 -- operands lie below the temp above them
 steps_operands : (steps : Steps) (us : List Value) (h : ℕ) (held : List Kept) → length held ≡ h → Operands steps us → length (held ++ all_kept (index_types steps) us) ≡ steps_above steps h
@@ -133,7 +140,7 @@ module _ (m : Built) (around : Setting) (sites_are : around.sites ≡ m.program.
   -- goes to temp `at`, which is free.
   pub lefts_follow : (ls : List Left) (ts : List TypeTree) (vs : List Value) (gone tail all : List Kept) (uss : List (List Value)) (ahead more : List Kept) (c : Frame) (first env : Env) (before scope : List ℕ) (calls : List Frame) (ws : Ways) (k : Env → Go) (v : View) (w : World) (n top at ho h pc lo b : ℕ) → Panics ws
       → AreOf ts vs → length gone ≡ h → all ≡ gone ++ (all_kept ts vs ++ tail) → Gives ls uss → length ahead ≡ ho → all ≡ ahead ++ (all_kept (left_types ls) (together uss) ++ more) → length all ≡ at
-      → Standing m.code c.fn pc (lefts_code (slots_of m.program m.placement c.func) (each_width ts) ls ho at h) → LeftsFit m.program before n (c.func.first + c.func.count) ts ls → at + lefts_far ls ≤ temps_of m.program m.placement c.func → c.func.first ≤ n → n + new_sites ls ≤ top → Keeping before scope first env n top
+      → Standing m.code c.fn pc (lefts_code (slots_of m.program m.placement c.func) (each_width ts) ls ho at h) → LeftsFit m.program before n (c.func.first + c.func.count) ts ls → at + lefts_far ls ≤ temps_of m.program m.placement c.func → c.func.first ≤ n → lefts_after n ls ≤ top → Keeping before scope first env n top
       → ((env1 : Env) (w1 : World) (v1 : View) → At m lo 0 b v1 (k env1 w1) (Stands m v1 w1 (during c env1 (scope_behind scope ls) all ∷ calls)) (pc + lefts_size ls))
       → At m lo 0 b v (Meaning.land_all around (landings first ls uss) vs ws env k w) (Stands m v w (during c env scope all ∷ calls)) pc
   lefts_follow [] [] vs gone tail all uss ahead more c first env before scope calls ws k v w n top at ho h pc lo b stops are hg e gives hp eo ha has fit room from under keeping post = place_is m (let q : pc + 0 ≡ pc = omega arith in q) (post env w v)
@@ -145,21 +152,21 @@ module _ (m : Built) (around : Setting) (sites_are : around.sites ≡ m.program.
       lefts_follow ls ts vs (gone ++ kept t x) tail all uss ahead more c first env before scope calls ws k v w n top at ho (h + width t) pc lo b stops are.1 (one_more gone t x h (width t) hg refl) (next_held t ts x vs gone tail all are.0 e) gives hp eo ha has fit (omega arith) from under keeping post
   lefts_follow (new site ∷ ls) (t ∷ ts) (x ∷ vs) gone tail all uss ahead more c first env before scope calls ws k v w n top at ho h pc lo b stops are hg e gives hp eo ha has fit room from under keeping post =
       let s = slots_of m.program m.placement c.func in let n1 = width (site_type m.program site) in let c0 = during c env scope all in
-      let same : width (site_type m.program site) ≡ width t = ap width fit.2 in
+      let same : width (site_type m.program site) ≡ width t = ap width fit.1 in
       let cell = Meaning.new_cell ws.call site (Meaning.site_type around site) x in
-      let here = fit.0 in let among = fit.1 in let solid = m.solid site in
+      let here = fit.0.0 in let among = fit.0.1 in let later_sites = lefts_from m.program before (suc site) (c.func.first + c.func.count) ts ls fit.2 in let solid = m.solid site in
       let kind = cell_kind m around sites_are site in
-      let typed : IsOf cell.type x = subst (λ y. IsOf y x) (sym (kind ∙ fit.2)) are.0 in
+      let typed : IsOf cell.type x = subst (λ y. IsOf y x) (sym (kind ∙ fit.1)) are.0 in
       let first_held = λ (u : Memory) (g : Stands m v w (c0 ∷ calls) u). all_first t ts x vs gone tail all c0 calls v w u refl are.0 e g in
-      let keeping1 : Keeping before (site ∷ scope) first (with_home env site (length w.store)) (suc n) top =
+      let keeping1 : Keeping before (site ∷ scope) first (with_home env site (length w.store)) (suc site) top =
       λ u i. (inr (keeping u i).0, home_other env site (length w.store) u (λ q. elim (keeping u i).2 [ inl l ↦ absurd (omega arith) | inr l ↦ absurd (omega arith) ]) ∙ (keeping u i).1, elim (keeping u i).2 [ inl l ↦ inl (omega arith) | inr l ↦ inr l ]) in
       let below = ap length (next_held t ts x vs gone tail all are.0 e) in let among_all = length-append (gone ++ kept t x) (all_kept ts vs ++ tail) in
       turned m {lo1 = suc (suc lo)} (omega arith)
       (births_filled m {lo = lo} {hi = 0} c0 calls v w site pc h cell has.0.0 has.1.0.0
-      (omega (arith, same, below, among_all, one_more gone t x h (width t) hg refl)) (omega arith) (omega arith) kind typed
-      (λ u g. subst (λ o. Stand m.program m.leading v.homes u.hi w (leaves o) (contents x) (words_at u.words (temp s h) n1)) (sym (kind ∙ fit.2)) (held_stand m v w c0 calls u gone (all_kept ts vs ++ tail) t x h n1 hg same (first_held u g)))
+      (omega (arith, same, below, among_all, one_more gone t x h (width t) hg refl)) (omega arith) (omega arith) fit.0.2 kind typed
+      (λ u g. subst (λ o. Stand m.program m.leading v.homes u.hi w (leaves o) (contents x) (words_at u.words (temp s h) n1)) (sym (kind ∙ fit.1)) (held_stand m v w c0 calls u gone (all_kept ts vs ++ tail) t x h n1 hg same (first_held u g)))
       (λ v2.
-      lefts_follow ls ts vs (gone ++ kept t x) tail all uss ahead more c first (with_home env site (length w.store)) before (site ∷ scope) calls ws k v2 (born w cell) (suc n) top at ho (h + width t) (pc + 1 + 1) lo b stops are.1 (one_more gone t x h (width t) hg refl) (next_held t ts x vs gone tail all are.0 e) gives hp eo ha has.1.1 fit.3 (omega arith) (omega arith) (omega arith) keeping1
+      lefts_follow ls ts vs (gone ++ kept t x) tail all uss ahead more c first (with_home env site (length w.store)) before (site ∷ scope) calls ws k v2 (born w cell) (suc site) top at ho (h + width t) (pc + 1 + 1) lo b stops are.1 (one_more gone t x h (width t) hg refl) (next_held t ts x vs gone tail all are.0 e) gives hp eo ha has.1.1 fit.2 (omega arith) (omega arith) under keeping1
       (λ env1 w1 v1. place_is m (let q : pc + suc (suc (lefts_size ls)) ≡ pc + 1 + 1 + lefts_size ls = omega arith in q) (post env1 w1 v1))))
   lefts_follow (to p ∷ ls) (t ∷ ts) (x ∷ vs) gone tail all [] ahead more c first env before scope calls ws k v w n top at ho h pc lo b stops are hg e gives hp eo ha has fit room from under keeping post = absurd gives
   lefts_follow (to p ∷ ls) (t ∷ ts) (x ∷ vs) gone tail all (us ∷ uss) ahead more c first env before scope calls ws k v w n top at ho h pc lo b stops are hg e gives hp eo ha has fit room from under keeping post =
@@ -210,7 +217,7 @@ module _ (m : Built) (around : Setting) (sites_are : around.sites ≡ m.program.
       (later m {lo = suc (suc (suc lo))} {hi = 1} {b = b} (omega arith) (omega arith) (omega arith)
       (given m (held_none m v w old calls)
       (fetched m (local site itself) t [] [] c1 calls held [] v w 0 0 h pc (suc (suc lo)) 1 b _ has.0.0 (among.0, refl, solid) (refl, λ z. refl) (record { led = tt; there = λ i f. absurd (omega (arith, f)) }) hh (omega arith) (λ typed.
-      births_filled m {lo = lo} {hi = 0} c1 calls v w site (pc + 1) h cell has.1.0.0 has.1.1.0.0 (omega arith) places.0 places.1 kind (subst (λ o. IsOf o x) (sym kind) typed)
+      births_filled m {lo = lo} {hi = 0} c1 calls v w site (pc + 1) h cell has.1.0.0 has.1.1.0.0 (omega arith) places.0 places.1 places.2 kind (subst (λ o. IsOf o x) (sym kind) typed)
       (λ u g. subst (λ o. Stand m.program m.leading v.homes u.hi w (leaves o) (contents x) (words_at u.words (temp s h) n)) (sym kind) (last_stand m v w old calls u held t x h n hh refl g))
       (λ v2. given m
       (λ u g. narrowed m.program m.placement m.max m.leading v2 (born w cell) (during c env1 (site ∷ scope) held) calls u env1 (site ∷ scope) scope (λ i j. inr j)
@@ -220,15 +227,15 @@ module _ (m : Built) (around : Setting) (sites_are : around.sites ≡ m.program.
 
   -- new variables with zeros
   pub zeros_follow : (sites : List ℕ) (c : Frame) (env : Env) (scope : List ℕ) (held : List Kept) (calls : List Frame) (entry : ℕ) (k : Env → Go) (v : View) (w : World) (n pc lo b : ℕ) → Standing m.code c.fn pc (zeros_code (slots_of m.program m.placement c.func) sites)
-      → SitesNext n (c.func.first + c.func.count) sites → c.func.first ≤ n
+      → SitesNext m.program n (c.func.first + c.func.count) sites → c.func.first ≤ n
       → ((env1 : Env) (w1 : World) (v1 : View) → At m lo 0 b v1 (k env1 w1) (Stands m v1 w1 (during c env1 (scope_with scope sites) held ∷ calls)) (pc + length sites))
       → At m lo 0 b v (Meaning.bear_zeros around entry sites env k w) (Stands m v w (during c env scope held ∷ calls)) pc
   zeros_follow [] c env scope held calls entry k v w n pc lo b has fit from post = place_is m (let e : pc + 0 ≡ pc = omega arith in e) (post env w v)
   zeros_follow (site ∷ sites) c env scope held calls entry k v w n pc lo b has fit from post =
       let c0 = during c env scope held in
       let x = Meaning.zero_of around site in let cell = Meaning.new_cell entry site (Meaning.site_type around site) x in
-      let here = fit.0 in let among = fit.1 in
+      let here = fit.0.0 in let among = fit.0.1 in
       turned m {lo1 = suc lo} (omega arith)
-      (births_zero m {lo = lo} {hi = 0} c0 calls v w site pc cell has.0.0 (omega arith) (omega arith) (cell_kind m around sites_are site) (zero_value m around sites_are site)
-      (λ v2. zeros_follow sites c (with_home env site (length w.store)) (site ∷ scope) held calls entry k v2 (born w cell) (suc n) (pc + 1) lo b has.1 fit.2 (omega arith)
+      (births_zero m {lo = lo} {hi = 0} c0 calls v w site pc cell has.0.0 (omega arith) (omega arith) fit.0.2 (cell_kind m around sites_are site) (zero_value m around sites_are site)
+      (λ v2. zeros_follow sites c (with_home env site (length w.store)) (site ∷ scope) held calls entry k v2 (born w cell) (suc site) (pc + 1) lo b has.1 fit.1 (omega arith)
       (λ env1 w1 v1. place_is m (let e : pc + suc (length sites) ≡ pc + 1 + length sites = omega arith in e) (post env1 w1 v1))))

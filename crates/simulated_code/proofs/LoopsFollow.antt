@@ -3,7 +3,7 @@ use Rattle.std.proofs.Common.{◌≡◌, inr, inl, ℕ, suc, ◌+◌, ◌-◌, �
 use Rattle.std.specs.Prelude.{◌&&◌}
 use Rattle.typed_syntax.specs.Value.{Value, int, IsOf}
 use Rattle.typed_syntax.specs.Syntax.{Ex, Left, St, Sts, blank, new, to, over_int, if_stmt, for_stmt, range, done, next, argument_words}
-use Rattle.typed_syntax.specs.Form.{TestFits, births, births_all, new_sites, scope_behind, scope_after, breaks, breaks_all, ends, ends_all}
+use Rattle.typed_syntax.specs.Form.{TestFits, lefts_after, declared_after, all_sites_after, scope_behind, scope_after, breaks, breaks_all, ends, ends_all}
 use Rattle.frames.specs.Frames.{test_need, test_reach, sts_reach, left_far, outgoing_of, temps_of}
 use Rattle.meaning.specs.Trace.{World}
 use Rattle.meaning.specs.Meaning
@@ -27,7 +27,7 @@ use Rattle.simulated_code.proofs.ConditionsFollow.{branches}
 use Rattle.simulated_code.proofs.EvaluationsFollow.{ev_follows}
 use Rattle.simulated_code.proofs.LeftsFollow.{together, left_types, first_landing, land_one, lefts_follow, renew_follows}
 use Rattle.simulated_code.proofs.ReadyFollows.{ready_follow}
-use Rattle.simulated_code.proofs.Scopes.{behind_has, after_has, both_go_on, one_goes_on, first_or, second_or, tested, test_goes_on, break_goes_on, scoped_more, scoped_behind, scoped_after}
+use Rattle.simulated_code.proofs.Scopes.{behind_has, after_has, both_go_on, one_goes_on, first_or, second_or, tested, test_goes_on, break_goes_on, scoped_later, scoped_behind, scoped_after, sites_ascend}
 use Rattle.simulated_code.proofs.Counting.{remains_first}
 use Rattle.simulated_code.proofs.RoundsFollow.{counting, counting_is, two_held, Tests, Round, rounds_follow, CountRound, counted_follow}
 use Rattle.simulated_code.proofs.Leading.{After, after_later, leads_later, leads_alone, inside, leads_inside, leads_holding, Followed, AllFollowed}
@@ -45,7 +45,7 @@ module _ (m : Built) (around : Setting) (types : around.types ≡ m.program.type
       let cx = st_code fs a named s x h out again pc in let cxs = sts_code fs a named s xs h out again (pc + lx) in
       seen m _ (one ws env _ v w held h looped outer scope q out again pc lo b le hh (front m.code c.fn pc cx cxs has) fit.0 (omega arith) (omega arith) sc
       (leads_later m c calls {lo = lo} {b = b} (omega arith) (omega arith) (first_or (breaks x) (breaks_all xs)) (λ u i. i) leads)
-      (λ goes env1 w1 v1. rest ws env1 k v1 w1 held h looped outer (scope_after scope x) (q + births x) out again (pc + lx) lo b le hh (back m.code c.fn pc lx cx cxs (length_st fs a named s x h out again pc) has) fit.1 (omega arith) (omega arith)
+      (λ goes env1 w1 v1. rest ws env1 k v1 w1 held h looped outer (scope_after scope x) (declared_after q x) out again (pc + lx) lo b le hh (back m.code c.fn pc lx cx cxs (length_st fs a named s x h out again pc) has) fit.1 (omega arith) (omega arith)
       (scoped_after m.program c.func c.func.results (length named) looped (c.func.first + c.func.count) scope q x fit.0 sc)
       (leads_later m c calls {lo = lo} {b = b} (omega arith) (omega arith) (second_or (breaks x) (breaks_all xs)) (after_has scope x) leads)
       (λ go_on env2 w2 v2. place_is m (let e : pc + (lx + lxs) ≡ pc + lx + lxs = omega arith in e)
@@ -70,7 +70,7 @@ module _ (m : Built) (around : Setting) (types : around.types ≡ m.program.type
       (λ goes env1 w2 v2. later m {lo = suc lo} {hi = 1} {b = b} (omega arith) (omega arith) (omega arith) (stepped m {lo = lo} {hi = 0} j (λ u. u) has3.0.0 (λ u g. (refl, refl, g))
       (place_is m q2 (post (ap (λ t. t && ends_all y) goes) env1 w2 v2)))))
       (later m {lo = lo} {hi = 0} {b = b} (omega arith) (omega arith) (omega arith)
-      (second ws env k v1 w1 held h looped outer scope (q + births_all x) out again p2 lo b le hh has3.1 fit.2 (omega arith) (omega arith) (scoped_more c.func scope q (births_all x) sc)
+      (second ws env k v1 w1 held h looped outer scope (all_sites_after q x) out again p2 lo b le hh has3.1 fit.2 (omega arith) (omega arith) (scoped_later c.func scope q (all_sites_after q x) (sites_ascend fs c.func.results (length named) (c.func.first + c.func.count) x looped scope q fit.1) sc)
       (leads_later m c calls {lo = lo} {b = b} (omega arith) (omega arith) (second_or (breaks_all x) (breaks_all y)) (λ u i. i) leads)
       (λ goes env1 w2 v2. place_is m q2 (post (one_goes_on (ends_all x) (ends_all y) goes) env1 w2 v2))))))
 
@@ -152,8 +152,8 @@ module _ (m : Built) (around : Setting) (types : around.types ≡ m.program.type
 
       round : Round m c calls held scope here last lo b body_of
       round u j d db go env1 w1 v1 =
-          bodies (inside m c calls ws (Meaning.outside k u) (next_of u j)) env1 (next_of u j) v1 w1 held h true scope scope (q + births_all after) behind turn here lo d (omega arith) hh
-          (front m.code c.fn here cb (cr ++ (cp ++ Jump pc ∷ [])) has_b) fit.3 (omega arith) (omega arith) (scoped_more c.func scope q (births_all after) sc)
+          bodies (inside m c calls ws (Meaning.outside k u) (next_of u j)) env1 (next_of u j) v1 w1 held h true scope scope (all_sites_after q after) behind turn here lo d (omega arith) hh
+          (front m.code c.fn here cb (cr ++ (cp ++ Jump pc ∷ [])) has_b) fit.3 (omega arith) (omega arith) (scoped_later c.func scope q (all_sites_after q after) (sites_ascend m.program c.func.results (length c.func.named) (c.func.first + c.func.count) after false scope q fit.2) sc)
           (leads_inside m c calls (Meaning.outside k u) (next_of u j) db (λ z i. i) leads
           (λ e. after_later m c calls held scope behind lo lo b d (Meaning.outside k u) (omega arith) db (behind_loop (break_goes_on sites test after body e) u)) (next_follow u j d db go)) (λ goes. next_follow u j d db go)
 
@@ -259,11 +259,11 @@ module _ (m : Built) (around : Setting) (types : around.types ≡ m.program.type
           let ops = all_kept (left_types (key ∷ [])) (together uss) in
           let inside_room = lefts_room m.program (temps_of m.program m.placement c.func) (h + 2) (left_far key) (key ∷ []) (omega arith) in
           subst (λ t. At m lo 0 d v2 t (Stands m v2 w2 (during c env1 scope (all ++ ops) ∷ calls)) start) (sym (land_one around key uss env1 env1 (int (pos i)) (ways z) land w2 gives))
-          (lefts_follow m around sites_are (key ∷ []) (ints ∷ []) (int (pos i) ∷ []) (held ++ kept ints (int z)) ops (all ++ ops) uss all [] c env1 env1 scope scope calls (ways z) land v2 w2 q (q + new_sites (key ∷ [])) above (h + 2) (h + 1) start lo d leads.panics (tt, tt)
+          (lefts_follow m around sites_are (key ∷ []) (ints ∷ []) (int (pos i) ∷ []) (held ++ kept ints (int z)) ops (all ++ ops) uss all [] c env1 env1 scope scope calls (ways z) land v2 w2 q (lefts_after q (key ∷ [])) above (h + 2) (h + 1) start lo d leads.panics (tt, tt)
           (one_more held ints (int z) h 1 hh refl) (ap (λ l. l ++ ops) (sym (counting_is z held i)) ∙ append_assoc (held ++ kept ints (int z)) (kept ints (int (pos i))) ops) gives (two_held z held h i hh) (ap (λ l. all ++ l) (sym (append-nil ops))) there has_k fit.1 (omega arith) sc.from (omega arith) (λ x y. (y, refl, inl (sc.below x y))) (λ env2 w3 v3.
           place_is m (sym begins)
           (given m (λ x g. fewer m v3 w3 (during c env2 more all) calls x all ops g)
-          (bodies (inside m c calls (ways z) first then_next) env2 then_next v3 w3 all (h + 2) true scope more (q + new_sites (key ∷ [])) behind turn here lo d (omega arith) (two_held z held h i hh)
+          (bodies (inside m c calls (ways z) first then_next) env2 then_next v3 w3 all (h + 2) true scope more (lefts_after q (key ∷ [])) behind turn here lo d (omega arith) (two_held z held h i hh)
           (front m.code c.fn here cb counts has_b) fit.2 (omega arith) (let others = lefts_others m.program (sts_reach m.program body) (key ∷ []) in omega (arith, key_alone m.program key (sts_reach m.program body))) (scoped_behind m.program c.func scope q (c.func.first + c.func.count) (ints ∷ []) (key ∷ []) fit.1 sc)
           (leads_inside m c calls first then_next db (behind_has scope (key ∷ [])) (leads_holding m c calls e (int z) leads)
           (λ t env3 w4 v4. given m (λ x g. fewer m v4 w4 (during c env3 scope held) calls x held (kept ints (int z) ++ kept ints (int (pos i))) g) (after_later m c calls held scope behind lo lo b d first (omega arith) db (behind_loop u) env3 w4 v4)) next)

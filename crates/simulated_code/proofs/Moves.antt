@@ -32,7 +32,7 @@ use Rattle.simulated_code.proofs.Standing.{Standing, front, back, Panics}
 pub params_length : (p : Program) (m : ℕ) (ts : List TypeTree) (ps : List (Option ℕ)) → ParamsFit p m ts ps → length ts ≡ length ps
 params_length p m [] [] fit = refl
 params_length p m (t ∷ ts) (None ∷ ps) fit = ap suc (params_length p m ts ps fit)
-params_length p m (t ∷ ts) (Some site ∷ ps) fit = ap suc (params_length p (suc m) ts ps fit.2)
+params_length p m (t ∷ ts) (Some site ∷ ps) fit = ap suc (params_length p (suc m) ts ps fit.3)
 params_length p m [] (q ∷ ps) fit = absurd fit
 params_length p m (t ∷ ts) [] fit = absurd fit
 

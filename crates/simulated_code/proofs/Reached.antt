@@ -100,7 +100,7 @@ module _ (m : Built) where
           → Opens v w (c ∷ calls) s (if boxed then by_address (cell_slot (slots_of m.program m.placement c.func) site) else in_slots (site_slot (slots_of m.program m.placement c.func) site)) t (c.env site) way (offset own (path_of steps))
       near z true e =
           let cell = cell_slot (slots_of m.program m.placement c.func) site in let d = depth m.program m.placement (c ∷ calls) - cell in
-          let among = g.homed.owned.0.among site fit.0 in let inside = cell_inside m.program m.placement c.func site e among.0 among.1 in
+          let among = g.homed.owned.0.among site fit.0 in let inside = cell_inside m.program m.placement c.func site e among.2 among.0 among.1 in
           let same : word_at s.words d ≡ slice_index s.words cell = word_slot s.words (depth m.program m.placement (c ∷ calls)) cell g.sized.used (omega (arith, inside.1)) in
           let none : 0 + offset own way ≡ offset own (path_of steps) = (let q = ap (offset own) (leads.1 z) in omega (arith, q)) in
           subst (λ n. Reaches v.homes s.hi w t (c.env site) way n (slice_index s.words cell)) none

@@ -34,7 +34,7 @@ module _ (m : Built) (around : Setting) (types : around.types ≡ m.program.type
   ready_follow (blank ∷ ls) (t ∷ ts) behind others q limit c calls ws k v w h pc lo b le hh stops has fit enough reaches post =
       ready_follow ls ts behind others q limit c calls (Meaning.holding_all ws []) (λ xs ws1. k (nowhere ∷ xs) ws1) v w h pc lo b le hh stops has fit enough reaches post
   ready_follow (new site ∷ ls) (t ∷ ts) behind others q limit c calls ws k v w h pc lo b le hh stops has fit enough reaches post =
-      ready_follow ls ts behind others (suc q) limit c calls (Meaning.holding_all ws []) (λ xs ws1. k (birth site ∷ xs) ws1) v w h pc lo b le hh stops has fit.3 enough reaches post
+      ready_follow ls ts behind others (suc site) limit c calls (Meaning.holding_all ws []) (λ xs ws1. k (birth site ∷ xs) ws1) v w h pc lo b le hh stops has fit.2 enough reaches post
   ready_follow (to p ∷ ls) (t ∷ ts) behind others q limit c calls ws k v w h pc lo b le hh stops has fit enough reaches post =
       let s = slots_of m.program m.placement c.func in let size = place_size m.program p 0 in let above = place_above p h in let next = place_end m.program p pc in
       let cp = place_code m.program s p h pc in let rest = ready_code m.program s ls above next in

@@ -212,7 +212,7 @@ module _ (m : Built) where
           stepped m {lo = lo} {hi = hi} {G1 = after} (Move Moved.Silent slot cell 1) (λ u. sets u slot (slice_index u.words cell))
           (here ∙ ap (λ k. Some (if k then Move Moved.Silent slot cell 1 else Address slot (site_slot (slots_of m.program m.placement c.func) site))) e)
           (λ u g.
-          let among = g.homed.owned.0.among site scoped in let inside = cell_inside m.program m.placement c.func site e among.0 among.1 in let long = g.sized.used in
+          let among = g.homed.owned.0.among site scoped in let inside = cell_inside m.program m.placement c.func site e among.2 among.0 among.1 in let long = g.sized.used in
           let same : word_at u.words d ≡ slice_index u.words cell = word_slot u.words (depth m.program m.placement (c ∷ calls)) cell long (omega (arith, inside.1)) in (
             moved_one m Moved.Silent slot cell pc u (omega arith) (omega (arith, inside.1)),
             refl,

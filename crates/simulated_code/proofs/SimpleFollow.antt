@@ -8,7 +8,7 @@ use Rattle.typed_syntax.specs.Value.{Value, int, bool, IsOf}
 use Rattle.typed_syntax.specs.Syntax.{all_width, Ex, Exs, Pl, Left, Piece, none, more, results, read_int, text, shown, declare, assign, update, bump, discard, break_stmt, continue_stmt, return_stmt, print, panic, exit, argument_words, all_wide, value_widths, read}
 use Rattle.typed_syntax.specs.Types.{TypeTree, ints, bools, struct_of, array_of, pointer_to, slice_of}
 use Rattle.simulated_code.proofs.Numbers.{TakesPlain, arithmetic_takes, no_struct, no_array, no_pointer, no_slice, step_takes}
-use Rattle.typed_syntax.specs.Form.{IsPlain, AreOf, new_sites, scope_behind, ExsFit, ReturnFits}
+use Rattle.typed_syntax.specs.Form.{IsPlain, AreOf, lefts_after, scope_behind, ExsFit, ReturnFits}
 use Rattle.frames.specs.Frames.{far, lefts_far, behind_values, need, need_all, reach, reach_all, temps_of}
 use Rattle.meaning.specs.Trace.{World, Exit, Panic, raised, raised_text, exit_code}
 use Rattle.meaning.specs.Store.{value_of, written}
@@ -116,7 +116,7 @@ module _ (m : Built) where
         knowing m (λ s0 g0.
         let within = g0.homed.owned.0.room in
         let room = address_room (temps_of m.program m.placement c.func) first all (lefts_far ls) (omega (arith, long)) (omega arith) in
-        lefts_follow m around sites_are ls fit.0 vs under [] (under ++ vals) uss held vals c env env scope scope calls ws k v2 w2 q (q + new_sites ls) (first + all) h first (behind + exs_size m.program es) lo b leads.panics are above
+        lefts_follow m around sites_are ls fit.0 vs under [] (under ++ vals) uss held vals c env env scope scope calls ws k v2 w2 q (lefts_after q ls) (first + all) h first (behind + exs_size m.program es) lo b leads.panics are above
         (ap (λ l. under ++ l) (sym (append-nil vals))) gives hh (append_assoc held ops vals) long has_l fit.1 room sc.from (omega arith) (λ u i. (i, refl, inl (sc.below u i))) (λ env1 w3 v3.
         place_is m (let e : pc + lefts_sized m.program ls (exs_size m.program es + lefts_size ls) ≡ behind + exs_size m.program es + lefts_size ls = omega (arith, lefts_sum m.program ls (exs_size m.program es + lefts_size ls), ends) in e)
         (given m (λ u g. fewer m v3 w3 (during c env1 (scope_behind scope ls) held) calls u held ops (fewer m v3 w3 (during c env1 (scope_behind scope ls) held) calls u under vals g)) (post refl env1 w3 v3)))))))

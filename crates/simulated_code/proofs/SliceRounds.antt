@@ -5,7 +5,7 @@ use Rattle.std.specs.Int.{w64, cast_signed}
 use Rattle.typed_syntax.specs.Types.{TypeTree, ints, slice_of, width}
 use Rattle.typed_syntax.specs.Value.{Value, int, IsOf}
 use Rattle.typed_syntax.specs.Syntax.{Ex, Left, Sts, blank, new, to, over_slice, range, argument_words, type_named}
-use Rattle.typed_syntax.specs.Form.{new_sites, scope_behind, ExFits, LeftsFit, StsFit}
+use Rattle.typed_syntax.specs.Form.{lefts_after, scope_behind, ExFits, LeftsFit, StsFit}
 use Rattle.frames.specs.Frames.{lefts_far, behind_values, lefts_need, lefts_reach, key_need, need, reach, sts_need, sts_reach, outgoing_of, temps_of}
 use Rattle.meaning.specs.Trace.{World}
 use Rattle.meaning.specs.Store.{read_at as value_at}
@@ -104,7 +104,7 @@ module _ (m : Built) (around : Setting) (types : around.types ≡ m.program.type
         let less = head.less in let small = head.small in omega arith
 
     -- over the indices alone
-    indices_only : (key : Left) → LeftsFit m.program scope q (c.func.first + c.func.count) (ints ∷ []) (key ∷ []) → StsFit m.program c.func.results (length c.func.named) true (scope_behind scope (key ∷ [])) (q + new_sites (key ∷ [])) (c.func.first + c.func.count) body
+    indices_only : (key : Left) → LeftsFit m.program scope q (c.func.first + c.func.count) (ints ∷ []) (key ∷ []) → StsFit m.program c.func.results (length c.func.named) true (scope_behind scope (key ∷ [])) (lefts_after q (key ∷ [])) (c.func.first + c.func.count) body
         → ExFits m.program scope (slice_of t) e → h + need m.program e ≤ temps_of m.program m.placement c.func → h + 6 ≤ temps_of m.program m.placement c.func → h + (4 + key_need m.program key) ≤ temps_of m.program m.placement c.func → h + (4 + sts_need m.program c.func.named body) ≤ temps_of m.program m.placement c.func
         → reach m.program e ≤ outgoing_of m.program c.func → lefts_reach m.program (key ∷ []) (sts_reach m.program body) ≤ outgoing_of m.program c.func
         → (inside_at turn : ℕ) → inside_at ≡ entry + index_round_size m.program key → inside_at + sts_size m.program (argument_words c.func) c.func.named body ≡ turn
@@ -123,7 +123,7 @@ module _ (m : Built) (around : Setting) (types : around.types ≡ m.program.type
         (λ u env1 w2 v2. given m (λ p g. fewer m v2 w2 (during c env1 scope held) calls p held (kept (slice_of t) y) g) (seen m _ (post env1 w2 v2)))))
 
     -- and over the elements
-    elements_too : (key value : Left) → 0 < width r → LeftsFit m.program scope q (c.func.first + c.func.count) (ints ∷ r ∷ []) (key ∷ value ∷ []) → StsFit m.program c.func.results (length c.func.named) true (scope_behind scope (key ∷ value ∷ [])) (q + new_sites (key ∷ value ∷ [])) (c.func.first + c.func.count) body
+    elements_too : (key value : Left) → 0 < width r → LeftsFit m.program scope q (c.func.first + c.func.count) (ints ∷ r ∷ []) (key ∷ value ∷ []) → StsFit m.program c.func.results (length c.func.named) true (scope_behind scope (key ∷ value ∷ [])) (lefts_after q (key ∷ value ∷ [])) (c.func.first + c.func.count) body
         → ExFits m.program scope (slice_of t) e → h + need m.program e ≤ temps_of m.program m.placement c.func → h + 6 ≤ temps_of m.program m.placement c.func → h + (4 + lefts_need m.program (key ∷ value ∷ []) (max (1 + width r) (behind_values (1 + width r) (lefts_far (key ∷ value ∷ []))))) ≤ temps_of m.program m.placement c.func
         → h + (4 + sts_need m.program c.func.named body) ≤ temps_of m.program m.placement c.func → reach m.program e ≤ outgoing_of m.program c.func → lefts_reach m.program (key ∷ value ∷ []) (sts_reach m.program body) ≤ outgoing_of m.program c.func
         → (turn : ℕ) → entry + lefts_sized m.program (key ∷ value ∷ []) (3 + lefts_size (key ∷ value ∷ [])) + sts_size m.program (argument_words c.func) c.func.named body ≡ turn
@@ -141,7 +141,7 @@ module _ (m : Built) (around : Setting) (types : around.types ≡ m.program.type
         ev_follows m around types inputs sites_are callees n cf e (slice_of t) (during c env scope held) calls ws _ v w h pc lo b le hh leads.panics (front m.code c.fn pc ce rest has) fe enough reaches (λ y w1 v1 iy.
         knowing m (λ u0 g0.
         let small = few y w1 v1 iy u0 g0 in let more = held ++ kept (slice_of t) y in let wide = one_more held (slice_of t) y h 3 hh refl in let above = lefts_above ls (h + 3 + 1) in
-        elements_follow m around types inputs sites_are callees n cf c calls (slice_count y) r key value body bodies (Meaning.read_sliced y) (sliced_element_code s (width r) h above) 3 (width r) (Meaning.holding ws e y) k more held (h + 3) looped outer scope scope q (q + new_sites ls) out again turn (turn + 3) start entry lo b env v1 w1 le wide refl (λ z. refl) turn_is
+        elements_follow m around types inputs sites_are callees n cf c calls (slice_count y) r key value body bodies (Meaning.read_sliced y) (sliced_element_code s (width r) h above) 3 (width r) (Meaning.holding ws e y) k more held (h + 3) looped outer scope scope q (lefts_after q ls) out again turn (turn + 3) start entry lo b env v1 w1 le wide refl (λ z. refl) turn_is
         (slice_placed t y held h scope iy hh start (turn + 3) (round (h + 3 + 1)) (cb (h + 3 + 1)) small (omega arith) has_r) small fl fb (omega arith) (omega arith) (omega arith) lefts_room
         (scoped_behind m.program c.func scope q (c.func.first + c.func.count) (ints ∷ r ∷ []) ls fl sc) sc.from (λ p z. inl (sc.below p z)) (leads_holding m c calls e y leads)
         (λ u env1 w2 v2. given m (λ p g. fewer m v2 w2 (during c env1 scope held) calls p held (kept (slice_of t) y) g) (seen m _ (post env1 w2 v2)))

@@ -7,7 +7,7 @@ use Rattle.typed_syntax.specs.Types.{TypeTree, width}
 use Rattle.typed_syntax.specs.Value.{Value, IsOf}
 use Rattle.typed_syntax.specs.Paths.{with_path, Leads, offset}
 use Rattle.typed_syntax.specs.Words.{Content, contents}
-use Rattle.typed_syntax.specs.Syntax.{Func, Program, site_type}
+use Rattle.typed_syntax.specs.Syntax.{Func, Program, site_type, is_made}
 use Rattle.typed_syntax.specs.Form.{InScope}
 use Rattle.frames.specs.Placement.{Placement}
 use Rattle.frames.specs.Frames.{frame_of}
@@ -241,7 +241,7 @@ module _ (p : Program) (pl : Placement) (max : ℕ) (led : Leading) where
         ]
 
     -- on the stack: the words of a site hold its value
-    module _ (v : View) (w : World) (c : Frame) (calls : List Frame) (s : Memory) (site d : ℕ) (y : Cell) (xs : List ℕ) (stays : pl.on_heap site ≡ false) (first : c.func.first ≤ site) (last : site < c.func.first + c.func.count)
+    module _ (v : View) (w : World) (c : Frame) (calls : List Frame) (s : Memory) (site d : ℕ) (y : Cell) (xs : List ℕ) (stays : pl.on_heap site ≡ false) (first : c.func.first ≤ site) (last : site < c.func.first + c.func.count) (declared : is_made p site ≡ false)
         (at : d ≡ depth p pl (c ∷ calls) - site_slot (slots_of p pl c.func) site) (kind : y.type ≡ site_type p site) (is : IsOf y.type y.value) (st : Stand p led v.homes s.hi w (leaves y.type) (contents y.value) xs) (g : Good p pl max led v w (c ∷ calls) s) where
       abbrev n : ℕ
       n = length w.store
@@ -418,6 +418,6 @@ module _ (p : Program) (pl : Placement) (max : ℕ) (led : Leading) where
         sized = let z = g.sized in let u = g.sized.used in let r = inside in let k = count in record { used = put_length s.words slot xs (omega arith) ∙ z.used; heap_used = z.heap_used; asked = z.asked; full = z.full; low = z.low; high = z.high; fits = z.fits; small = z.small };
       }
         where
-          scoped : (k : ℕ) → InScope k (site ∷ c.scope) → (c.func.first ≤ k) × (k < c.func.first + c.func.count)
-          scoped k (inl q) = (omega arith, omega arith)
+          scoped : (k : ℕ) → InScope k (site ∷ c.scope) → (c.func.first ≤ k) × (k < c.func.first + c.func.count) × (is_made p k ≡ false)
+          scoped k (inl q) = (omega arith, omega arith, ap (is_made p) q ∙ declared)
           scoped k (inr i) = g.homed.owned.0.among k i

@@ -5,7 +5,7 @@ use Rattle.std.proofs.lemmas.Bool.{cases_eq}
 use Rattle.typed_syntax.specs.Types.{TypeTree, width}
 use Rattle.typed_syntax.specs.Value.{IsOf}
 use Rattle.typed_syntax.specs.Words.{contents}
-use Rattle.typed_syntax.specs.Syntax.{Program, site_type}
+use Rattle.typed_syntax.specs.Syntax.{Program, site_type, is_made}
 use Rattle.typed_syntax.specs.Form.{InScope}
 use Rattle.frames.specs.Placement.{Placement}
 use Rattle.frames.specs.Frames.{outgoing_of, temps_of, frame_of}
@@ -44,7 +44,7 @@ module _ (p : Program) (pl : Placement) (max : ℕ) (led : Leading) where
       tells q e word = subst (λ r. word_at s.words d + 0 ≡ address_in s.hi r + 0) e (ap (λ n. n + 0) word)
 
   -- the variable x of a site that lives on the heap, in the newest call
-  module _ (v : View) (w : World) (c : Frame) (calls : List Frame) (s : Memory) (site x h : ℕ) (y : Cell) (boxed : pl.on_heap site ≡ true) (first : c.func.first ≤ site) (last : site < c.func.first + c.func.count)
+  module _ (v : View) (w : World) (c : Frame) (calls : List Frame) (s : Memory) (site x h : ℕ) (y : Cell) (boxed : pl.on_heap site ≡ true) (first : c.func.first ≤ site) (last : site < c.func.first + c.func.count) (declared : is_made p site ≡ false)
       (here : slice_get w.store x ≡ Some y) (kind : y.type ≡ site_type p site) (home : v.homes x ≡ Some (on_heap h)) (g : Good p pl max led v w (c ∷ calls) s) where
     abbrev deep : ℕ
     deep = depth p pl (c ∷ calls)
@@ -62,10 +62,10 @@ module _ (p : Program) (pl : Placement) (max : ℕ) (led : Leading) where
     words1 = put_words s.words slot (word ∷ [])
 
     inside : (outgoing_of p c.func + temps_of p pl c.func ≤ slot) × (slot + 3 ≤ frame_of p pl c.func)
-    inside = let r = cell_inside p pl c.func site boxed first last in (r.0, omega (arith, r.1))
+    inside = let r = cell_inside p pl c.func site boxed declared first last in (r.0, omega (arith, r.1))
 
     own_cell : Other p pl (c ∷ calls) d
-    own_cell = let r = cell_inside p pl c.func site boxed first last in let i = inside in inl (omega (arith, i.1), omega (arith, r.0), inr (inl (omega (arith, r.0, r.1), omega (arith, r.0, r.1))))
+    own_cell = let r = cell_inside p pl c.func site boxed declared first last in let i = inside in inl (omega (arith, i.1), omega (arith, r.0), inr (inl (omega (arith, r.0, r.1), omega (arith, r.0, r.1))))
 
     fits : slot + length (word ∷ []) ≤ length s.words
     fits = let i = inside in let u = g.sized.used in omega (arith, i.1)
@@ -126,11 +126,11 @@ module _ (p : Program) (pl : Placement) (max : ℕ) (led : Leading) where
         cells_differ : m.0 ≢ site → b ≡ true → deep - cell_slot (slots_of p pl c.func) m.0 ≡ d → ⊥
         cells_differ ne f q =
             let a = g.homed.owned.0.among m.0 (in_scope m.0 ne m.1) in let box = m.5 ∙ f in let i = inside in
-            let r = cell_inside p pl c.func m.0 box a.0 a.1 in
+            let r = cell_inside p pl c.func m.0 box a.2 a.0 a.1 in
             elim (less_or m.0 site) [
-              | inl lt ↦ (let n = cell_next p pl c.func m.0 site box a.0 lt in omega (arith, n, q, i.1, r.1))
+              | inl lt ↦ (let n = cell_next p pl c.func m.0 site box a.2 a.0 lt in omega (arith, n, q, i.1, r.1))
               | inr le ↦ elim (less_or site m.0) [
-                | inl lt ↦ (let n = cell_next p pl c.func site m.0 boxed first lt in omega (arith, n, q, i.1, r.1))
+                | inl lt ↦ (let n = cell_next p pl c.func site m.0 boxed declared first lt in omega (arith, n, q, i.1, r.1))
                 | inr l ↦ ne (omega arith)
               ]
             ]
@@ -168,8 +168,8 @@ module _ (p : Program) (pl : Placement) (max : ℕ) (led : Leading) where
       sized = record { used = put_length s.words slot (word ∷ []) fits ∙ z0.used; heap_used = z0.heap_used; asked = z0.asked; full = z0.full; low = z0.low; high = z0.high; fits = z0.fits; small = z0.small };
     }
       where
-        scoped : (k : ℕ) → InScope k (site ∷ c.scope) → (c.func.first ≤ k) × (k < c.func.first + c.func.count)
-        scoped k (inl q) = (omega arith, omega arith)
+        scoped : (k : ℕ) → InScope k (site ∷ c.scope) → (c.func.first ≤ k) × (k < c.func.first + c.func.count) × (is_made p k ≡ false)
+        scoped k (inl q) = (omega arith, omega arith, ap (is_made p) q ∙ declared)
         scoped k (inr i) = g.homed.owned.0.among k i
 
     -- the site gets the variable, and its cell the address
@@ -177,10 +177,10 @@ module _ (p : Program) (pl : Placement) (max : ℕ) (led : Leading) where
     name_box = subst (λ ws. Good p pl max led v w (grown c site x ∷ calls) (record s { words = ws })) (put_one s.words slot (first_address + h) (let i = inside in let u = g.sized.used in omega (arith, i.1))) put_good
 
   -- a variable of such a site is born: the heap gets its words, and the cell their address
-  pub box_birth : (v : View) (w : World) (c : Frame) (calls : List Frame) (s : Memory) (site n : ℕ) (y : Cell) (xs : List ℕ) → pl.on_heap site ≡ true → c.func.first ≤ site → site < c.func.first + c.func.count → n ≡ width y.type → v.heap + n ≤ 2 ^ 32 → IsOf y.type y.value → y.type ≡ site_type p site
+  pub box_birth : (v : View) (w : World) (c : Frame) (calls : List Frame) (s : Memory) (site n : ℕ) (y : Cell) (xs : List ℕ) → pl.on_heap site ≡ true → c.func.first ≤ site → site < c.func.first + c.func.count → is_made p site ≡ false → n ≡ width y.type → v.heap + n ≤ 2 ^ 32 → IsOf y.type y.value → y.type ≡ site_type p site
       → Stand p led v.homes s.hi w (leaves y.type) (contents y.value) xs → Good p pl max led v w (c ∷ calls) s
       → Good p pl max led (after_apart v n) (born w y) (grown c site (length w.store) ∷ calls) (sets (record s { heap = s.heap ++ xs }) (cell_slot (slots_of p pl c.func) site) (first_address + v.heap))
-  box_birth v w c calls s site n y xs boxed first last wide room is kind st g =
-      name_box (after_apart v n) (born w y) c calls (record s { heap = s.heap ++ xs }) site (length w.store) v.heap y boxed first last (is_new p pl max led w y (length w.store) refl) kind
+  box_birth v w c calls s site n y xs boxed first last declared wide room is kind st g =
+      name_box (after_apart v n) (born w y) c calls (record s { heap = s.heap ++ xs }) site (length w.store) v.heap y boxed first last declared (is_new p pl max led w y (length w.store) refl) kind
       (ap (born_apart v.homes v.births v.heap) (sym g.homed.births) ∙ apart_new v.homes v.births v.heap)
       (birth_apart p pl max led v w (c ∷ calls) s n y xs wide room is st (λ less. absurd (let b = g.homed.begun in omega arith)) g)

@@ -1,11 +1,11 @@
 -- Where the words of frames lie among each other, and what stands for the same while the world grows.
-use Rattle.std.proofs.Common.{◌≡◌, ◌≢◌, ◌⊎◌, inl, inr, ℕ, zero, suc, ◌+◌, ◌*◌, ◌-◌, ◌<◌, ◌≤◌, Bool, true, false, List, [], ◌∷◌, length, Option, Some, refl, sym, ap, ◌∙◌, subst, arith, get_or}
-use Rattle.std.specs.Prelude.{slice_get, slice_index, if◌then◌else◌}
+use Rattle.std.proofs.Common.{◌≡◌, ◌≢◌, ◌⊎◌, inl, inr, ℕ, zero, suc, ◌+◌, ◌*◌, ◌-◌, ◌<◌, ◌≤◌, Bool, true, false, List, [], ◌∷◌, length, Option, Some, refl, sym, ap, ap₂, ◌∙◌, subst, arith, get_or}
+use Rattle.std.specs.Prelude.{slice_get, slice_index, not, ◌&&◌, if◌then◌else◌}
 use Rattle.std.proofs.lemmas.Option.{slice_get_within}
 use Rattle.std.proofs.lemmas.Bool.{cases_eq}
 use Rattle.typed_syntax.specs.Types.{TypeTree, ints, bools, struct_of, array_of, pointer_to, slice_of, width}
 use Rattle.typed_syntax.specs.Words.{Content, number, truth, no_address, part_address, array_address}
-use Rattle.typed_syntax.specs.Syntax.{Func, Program, type_named, site_width}
+use Rattle.typed_syntax.specs.Syntax.{Func, Program, type_named, is_made, site_width}
 use Rattle.frames.specs.Placement.{Placement}
 use Rattle.frames.specs.Frames.{cell_words, cells_between, outgoing_of, temps_of, frame_of}
 use Rattle.typed_syntax.specs.Paths.{Leads, offset}
@@ -18,34 +18,34 @@ use Rattle.state_relation.specs.Relation.{Kept, word, address, spent, Frame, num
 use Rattle.state_relation.proofs.Lists.{less_or}
 
 -- a site of a function stands above its temps and cells and below the link
-pub site_inside : (p : Program) (pl : Placement) (f : Func) (site : ℕ) → pl.on_heap site ≡ false → f.first ≤ site → site < f.first + f.count → (outgoing_of p f + temps_of p pl f + cells_between pl f.first f.count ≤ site_slot (slots_of p pl f) site) × (site_slot (slots_of p pl f) site + site_width p site + 2 ≤ frame_of p pl f)
+pub site_inside : (p : Program) (pl : Placement) (f : Func) (site : ℕ) → pl.on_heap site ≡ false → f.first ≤ site → site < f.first + f.count → (outgoing_of p f + temps_of p pl f + cells_between pl p.made f.first f.count ≤ site_slot (slots_of p pl f) site) × (site_slot (slots_of p pl f) site + site_width p site + 2 ≤ frame_of p pl f)
 site_inside p pl f site stays from to = let r = site_among p pl f site stays from to in (omega arith, omega arith)
 
 -- its words stand before those of a later one
 pub site_next : (p : Program) (pl : Placement) (f : Func) (a b : ℕ) → pl.on_heap a ≡ false → f.first ≤ a → a < b → site_slot (slots_of p pl f) a + site_width p a ≤ site_slot (slots_of p pl f) b
 site_next p pl f a b stays from lt = let r = site_before p pl f.first a b stays from lt in omega arith
 
--- the cell of a site stands before that of a later one, and between the temps and the sites' words
-cells_next : (pl : Placement) (from k n : ℕ) → k < n → cells_between pl from k + cell_words pl (from + k) ≤ cells_between pl from n
-cells_next pl from k zero lt = absurd (omega arith)
-cells_next pl from zero (suc n) lt = let e : from + 0 ≡ from = omega arith in let q = ap (λ m. cell_words pl m) e in omega arith
-cells_next pl from (suc k) (suc n) lt =
+-- the cell of a site of declared variables stands before that of a later one, and between the temps and the sites' words
+cells_next : (pl : Placement) (made : List Bool) (from k n : ℕ) → k < n → cells_between pl made from k + cell_words pl made (from + k) ≤ cells_between pl made from n
+cells_next pl made from k zero lt = absurd (omega arith)
+cells_next pl made from zero (suc n) lt = let e : from + 0 ≡ from = omega arith in let q = ap (λ m. cell_words pl made m) e in omega arith
+cells_next pl made from (suc k) (suc n) lt =
     let e : suc from + k ≡ from + suc k = omega arith in
-    let q = ap (λ m. cell_words pl m) e in
-    let r = cells_next pl (suc from) k n (omega arith) in omega arith
+    let q = ap (λ m. cell_words pl made m) e in
+    let r = cells_next pl made (suc from) k n (omega arith) in omega arith
 
-cell_before : (pl : Placement) (first site n : ℕ) → pl.on_heap site ≡ true → first ≤ site → site - first < n → cells_between pl first (site - first) + 1 ≤ cells_between pl first n
-cell_before pl first site n boxed from lt =
+cell_before : (pl : Placement) (made : List Bool) (first site n : ℕ) → pl.on_heap site ≡ true → get_or made site false ≡ false → first ≤ site → site - first < n → cells_between pl made first (site - first) + 1 ≤ cells_between pl made first n
+cell_before pl made first site n boxed declared from lt =
     let e : first + (site - first) ≡ site = omega arith in
-    let q : cell_words pl (first + (site - first)) ≡ 1 = ap (λ m. cell_words pl m) e ∙ ap (λ (b : Bool). if b then 1 else 0) boxed in
-    let r = cells_next pl first (site - first) n lt in omega arith
+    let q : cell_words pl made (first + (site - first)) ≡ 1 = ap (λ m. cell_words pl made m) e ∙ ap₂ (λ (a b : Bool). if a && not b then 1 else 0) boxed declared in
+    let r = cells_next pl made first (site - first) n lt in omega arith
 
-pub cell_inside : (p : Program) (pl : Placement) (f : Func) (site : ℕ) → pl.on_heap site ≡ true → f.first ≤ site → site < f.first + f.count
-    → (outgoing_of p f + temps_of p pl f ≤ cell_slot (slots_of p pl f) site) × (cell_slot (slots_of p pl f) site < outgoing_of p f + temps_of p pl f + cells_between pl f.first f.count)
-cell_inside p pl f site boxed from to = let r = cell_before pl f.first site f.count boxed from (omega arith) in (omega arith, omega arith)
+pub cell_inside : (p : Program) (pl : Placement) (f : Func) (site : ℕ) → pl.on_heap site ≡ true → is_made p site ≡ false → f.first ≤ site → site < f.first + f.count
+    → (outgoing_of p f + temps_of p pl f ≤ cell_slot (slots_of p pl f) site) × (cell_slot (slots_of p pl f) site < outgoing_of p f + temps_of p pl f + cells_between pl p.made f.first f.count)
+cell_inside p pl f site boxed declared from to = let r = cell_before pl p.made f.first site f.count boxed declared from (omega arith) in (omega arith, omega arith)
 
-pub cell_next : (p : Program) (pl : Placement) (f : Func) (a b : ℕ) → pl.on_heap a ≡ true → f.first ≤ a → a < b → cell_slot (slots_of p pl f) a < cell_slot (slots_of p pl f) b
-cell_next p pl f a b boxed from lt = let r = cell_before pl f.first a (b - f.first) boxed from (omega arith) in omega arith
+pub cell_next : (p : Program) (pl : Placement) (f : Func) (a b : ℕ) → pl.on_heap a ≡ true → is_made p a ≡ false → f.first ≤ a → a < b → cell_slot (slots_of p pl f) a < cell_slot (slots_of p pl f) b
+cell_next p pl f a b boxed declared from lt = let r = cell_before pl p.made f.first a (b - f.first) boxed declared from (omega arith) in omega arith
 
 module _ (p : Program) (pl : Placement) where
   -- a word of the frames that is needed: not of the newest outgoing area, and not of a free temp
@@ -56,7 +56,7 @@ module _ (p : Program) (pl : Placement) where
 
   -- one of the cells of a frame that ends so deep
   abbrev pub CellAt : Frame → (deep d : ℕ) → Type 0
-  CellAt c deep d = (d + (outgoing_of p c.func + temps_of p pl c.func) ≤ deep) × (deep < d + (outgoing_of p c.func + temps_of p pl c.func + cells_between pl c.func.first c.func.count))
+  CellAt c deep d = (d + (outgoing_of p c.func + temps_of p pl c.func) ≤ deep) × (deep < d + (outgoing_of p c.func + temps_of p pl c.func + cells_between pl p.made c.func.first c.func.count))
 
   -- one that is no variable's: of a temp, a cell, a link or a return place
   abbrev pub Other : List Frame → ℕ → Type 0
@@ -132,7 +132,7 @@ module _ (p : Program) (pl : Placement) where
   pub box_other : (calls : List Frame) (x d : ℕ) (t : TypeTree) → AllOwn p pl calls → NamedAt p pl calls x d true t → Other calls d
   box_other [] x d t own h = h
   box_other (c ∷ calls) x d t own (inl h) =
-      let a = own.0.among h.0 h.1 in let r = cell_inside p pl c.func h.0 h.5 a.0 a.1 in
+      let a = own.0.among h.0 h.1 in let r = cell_inside p pl c.func h.0 h.5 a.2 a.0 a.1 in
       inl (omega (arith, h.3, r.1), omega (arith, h.3, r.0), inr (inl (omega (arith, h.3, r.0, r.1), omega (arith, h.3, r.0, r.1))))
   box_other (c ∷ calls) x d t own (inr h) = inr (box_other calls x d t own.1 h)
 

@@ -5,7 +5,7 @@ use Rattle.typed_syntax.specs.Types.{TypeTree, ints, bools, struct_of, array_of,
 use Rattle.typed_syntax.specs.Value.{Value, IsOf}
 use Rattle.typed_syntax.specs.Paths.{Leads, offset}
 use Rattle.typed_syntax.specs.Words.{Content, number, truth, no_address, part_address, array_address, contents}
-use Rattle.typed_syntax.specs.Syntax.{Func, Program, type_named, site_type, global_type}
+use Rattle.typed_syntax.specs.Syntax.{Func, Program, type_named, site_type, is_made, global_type}
 use Rattle.typed_syntax.specs.Form.{InScope}
 use Rattle.frames.specs.Placement.{Placement}
 use Rattle.frames.specs.Frames.{outgoing_of, temps_of, frame_of}
@@ -242,11 +242,12 @@ module _ (p : Program) (pl : Placement) where
 
   -- ---- the four parts
 
-  -- a running call is one of a function of the program, whose temps have room for what they keep, with sites of its own in scope
+  -- a running call is one of a function of the program, whose temps have room for what they keep, with sites of its own in scope, whose
+  -- variables are declared: each that lives on the heap has a cell
   pub record Own (c : Frame) : Type 0 where
     pub named : slice_get p.funcs c.fn ≡ Some c.func
     pub room : length c.held ≤ temps_of p pl c.func
-    pub among : (site : ℕ) → InScope site c.scope → (c.func.first ≤ site) × (site < c.func.first + c.func.count)
+    pub among : (site : ℕ) → InScope site c.scope → (c.func.first ≤ site) × (site < c.func.first + c.func.count) × (is_made p site ≡ false)
 
   abbrev pub AllOwn : List Frame → Type 0
   AllOwn [] = Unit {0}

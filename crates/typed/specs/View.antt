@@ -1,6 +1,8 @@
 -- The abstract syntax of typed programs.
-use Rattle.std.specs.Prelude.{ℕ, Bool as TruthValue, List, [], ◌∷◌, Option, Some, None, map, get_or}
+use Rattle.std.specs.Prelude.{ℕ, Bool as TruthValue, true, false, List, [], ◌∷◌, Option, Some, None, map, get_or}
 use Rattle.base.specs.declared.ids.SiteId.{SiteId}
+use Rattle.base.specs.declared.value_type.ValueType.{ValueType}
+use Rattle.base.specs.declared.value_type.ValueType.TheVariants.{Pointer, Slice}
 use Rattle.typed.specs.declared.expr.Const.{Const}
 use Rattle.typed.specs.declared.expr.Const.TheVariants.{Int, Bool}
 use Rattle.typed.specs.declared.expr.Step.{Step}
@@ -19,10 +21,12 @@ use Rattle.typed.specs.declared.stmt.Stmt.{Stmt, Row_of-Stmt, end_of-Stmt, more_
 use Rattle.typed.specs.declared.program.Func.{Func as FuncData}
 use Rattle.typed.specs.declared.program.PackageVariable.{PackageVariable}
 use Rattle.typed.specs.declared.program.Site.{Site}
+use Rattle.typed.specs.declared.program.SiteKind.{SiteKind}
+use Rattle.typed.specs.declared.program.SiteKind.TheVariants as kind
 use Rattle.typed.specs.declared.program.Program.{Program as ProgramData}
 use Rattle.typed.specs.Positions.{position}
 use Rattle.typed.specs.Trees.{trees}
-use Rattle.typed_syntax.specs.Types.{TypeTree, ints, bools}
+use Rattle.typed_syntax.specs.Types.{TypeTree, ints, bools, pointer_to, slice_of}
 use Rattle.typed_syntax.specs.Value.{Value, int, bool, zero_of}
 use Rattle.typed_syntax.specs.Syntax.{Ex, Exs, Pl, Steps, Bound, Elements, Left, Piece, St, Sts, Func, Program, constant, read, unary, binary, logical_and, logical_or, call, part_of, literal, nil, address_of, new_variable, literal_variable, slice_literal, make, append, append_slice, copy, slicing, array_slicing, len, cap, absent, bound, no_elements, element, local, global, indirect, slice_element, here, inner, at_index, none, more, results, read_int, blank, new, to, text, shown, over_int, over_length, over_copy, over_slice, over_pointer, over_pointed, declare, assign, update, bump, discard, block, if_stmt, for_stmt, range, break_stmt, continue_stmt, return_stmt, print, panic, exit, done, next, type_in}
 
@@ -32,6 +36,12 @@ basic_types = ints ∷ bools ∷ []
 
 abbrev pub type_of : ℕ → TypeTree
 type_of n = type_in basic_types n
+
+-- the type of a `nil`, which is one of pointers or of slices
+abbrev pub nil_type : ValueType → TypeTree
+nil_type (Pointer e) = pointer_to e.0
+nil_type (Slice e) = slice_of e.0
+nil_type other = ints
 
 abbrev pub value_of : Const → Value
 value_of (Int z) = int z
@@ -48,7 +58,7 @@ abbrev mutual
   ex_of (Call' f p vs) = call f.0 (exs_of_values vs)
   ex_of (Part' t i p e) = part_of t.0 i (ex_of e)
   ex_of (Literal' t shape row) = literal t.0 (elements_of_row row)
-  ex_of (Nil t) = nil t.0
+  ex_of (Nil t) = nil (nil_type t)
   ex_of (AddressOf q) = address_of (place_of q)
   ex_of (NewVariable site) = new_variable site.0
   ex_of (NewLiteral' site p e) = literal_variable site.0 (ex_of e)
@@ -177,8 +187,20 @@ first_value t (Some c) = value_of c
 abbrev pub site_types : List TypeTree → List Site → List TypeTree
 site_types types sites = map (λ site. type_in types site.type_id.0) sites
 
+-- whether expressions make variables of a kind: no name stands for them
+abbrev pub is_made_kind : SiteKind → TruthValue
+is_made_kind kind.New = true
+is_made_kind kind.Make = true
+is_made_kind kind.Append = true
+is_made_kind kind.Literal = true
+is_made_kind kind.SliceLiteral = true
+is_made_kind other = false
+
 abbrev pub addresses_taken : List Site → List TruthValue
 addresses_taken sites = map (λ site. site.address_taken) sites
+
+abbrev pub made_by_expressions : List Site → List TruthValue
+made_by_expressions sites = map (λ site. is_made_kind site.kind) sites
 
 -- a package variable, where these are the types of the sites
 abbrev pub global_of : List TypeTree → PackageVariable → ℕ × Value
@@ -191,6 +213,7 @@ program_in types p = record {
   types = types;
   sites = site_types types p.sites.items;
   taken = addresses_taken p.sites.items;
+  made = made_by_expressions p.sites.items;
   strings = map (λ bytes. bytes.items) p.strings.items;
   globals = map (global_of (site_types types p.sites.items)) p.globals.items;
   main = p.main.0;

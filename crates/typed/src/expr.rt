@@ -1,6 +1,6 @@
 //! Typed expressions.
 
-use base::{FuncId, Pos, SiteId, TypeId};
+use base::{FuncId, Pos, SiteId, TypeId, ValueType};
 use typed_syntax::{BinOp, UnOp};
 
 /// A constant.
@@ -73,7 +73,7 @@ pub enum Expr {
     /// A struct or an array of a type, and its elements in the order of the text; what no element is for is zero.
     Literal(TypeId, Vec<Element>),
     /// `nil`, of a type of pointers or of slices.
-    Nil(TypeId),
+    Nil(ValueType),
     /// `&` of a place.
     AddressOf(Place),
     /// `new`: a pointer to a new variable of a site.

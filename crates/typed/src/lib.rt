@@ -33,6 +33,7 @@ mod told;
 
 pub use expr::{Bound, Const, Element, Expr, Place, Step, Values};
 pub use fault::TableFault;
+pub use parts::nil_words;
 pub use program::{
     BOOL, Func, HeapReason, INT, NameRange, PackageVariable, Program, Site, SiteKind,
 };

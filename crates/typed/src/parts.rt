@@ -2,11 +2,22 @@
 
 ghost use Rattle.std.specs.Prelude.{◌≡◌, MatchOption};
 ghost use Rattle.typed_syntax.specs.Types.{ints, width, part_type, part_offset};
+ghost use Rattle.typed.specs.View.{nil_type};
 ghost use Rattle.typed.specs.Trees.{tree_named};
 ghost use Rattle.typed.specs.Formed.{IsFormed};
 
 use crate::table::TypeTable;
 use base::{TypeId, ValueType};
+
+/// The machine words of `nil` of a type of pointers or of slices.
+pub fn nil_words(value_type: ValueType) -> u32
+    ensures { result ≡ width (nil_type value_type) }
+{
+    match value_type {
+        ValueType::Slice(_) => 3,
+        _ => 1,
+    }
+}
 
 impl TypeTable {
     /// The machine words of each value of the type that has a number; where it has no tree, those of a whole number.

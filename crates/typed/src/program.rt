@@ -1,5 +1,8 @@
 //! Typed programs.
 
+ghost use Rattle.std.specs.Prelude.{◌≡◌};
+ghost use Rattle.typed.specs.View.{is_made_kind};
+
 use crate::expr::Const;
 use crate::stmt::Stmt;
 use crate::table::TypeTable;
@@ -28,6 +31,26 @@ pub enum SiteKind {
     SliceLiteral,
     /// A `range` over an array: the hidden copy.
     Range,
+}
+
+impl SiteKind {
+    /// Whether an expression makes the variables: no name stands for them.
+    pub fn is_made(self) -> bool
+        ensures { result ≡ is_made_kind self }
+    {
+        match self {
+            SiteKind::New
+            | SiteKind::Make
+            | SiteKind::Append
+            | SiteKind::Literal
+            | SiteKind::SliceLiteral => true,
+            SiteKind::Package
+            | SiteKind::Parameter
+            | SiteKind::Result
+            | SiteKind::Variable
+            | SiteKind::Range => false,
+        }
+    }
 }
 
 /// Why variables are on the heap, whatever flows.

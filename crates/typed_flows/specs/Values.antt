@@ -67,7 +67,7 @@ module _ (p : Program) where
     value (call f es) = flow.call f (arguments es)
     value (part_of n i e) = held (has_pointers (part_type (type_named p n) i)) (value e)
     value (literal n es) = parts (row (element_values es))
-    value (nil n) = nothing
+    value (nil t) = nothing
     value (address_of q) = place_address (has_pointers (place_type p q)) q
     value (new_variable site) = address site
     value (literal_variable site e) = stored site (value e ∷ [])

@@ -5,6 +5,9 @@
 //! evaluated in it stays, since it may call; a read is the variable, or what lies behind a pointer or a slice; an assignment gives its
 //! values to sites, or to the heap where they are stored anywhere else. The work is linear in the program.
 //!
+//! The idea is that of Go's escape analysis (the comments of cmd/compile/internal/escape, which turns each form of expression and
+//! statement into flows between locations).
+//!
 //! `specs/Flows` is the contract, and `specs/Values` has the values of expressions.
 #![tactic(auto)]
 

@@ -7,7 +7,7 @@ use Rattle.typed_syntax.specs.declared.operators.UnOp.{UnOp}
 use Rattle.typed_syntax.specs.declared.operators.UnOp.TheVariants.{Not}
 use Rattle.typed_syntax.specs.Types.{TypeTree, PartTypes, ints, bools, struct_of, array_of, pointer_to, slice_of, no_types, more_types, width, part_count, part_type}
 use Rattle.typed_syntax.specs.Value.{Value, int, bool, IsOf, FitsWords, LeadsNowhere}
-use Rattle.typed_syntax.specs.Syntax.{Ex, Exs, Pl, Left, Piece, Over, St, Sts, Func, Program, constant, read, unary, binary, logical_and, logical_or, call, part_of, literal, Elements, no_elements, element, nil, address_of, new_variable, literal_variable, slice_literal, make, append, append_slice, copy, slicing, array_slicing, len, cap, Bound, absent, bound, local, global, indirect, slice_element, none, more, results, read_int, blank, new, to, text, shown, over_int, over_length, over_copy, over_slice, over_pointer, over_pointed, declare, assign, update, bump, discard, block, if_stmt, for_stmt, range, break_stmt, continue_stmt, return_stmt, print, panic, exit, done, next, Steps, here, inner, at_index, argument_words, result_words, type_named, site_type, is_taken, global_type}
+use Rattle.typed_syntax.specs.Syntax.{Ex, Exs, Pl, Left, Piece, Over, St, Sts, Func, Program, constant, read, unary, binary, logical_and, logical_or, call, part_of, literal, Elements, no_elements, element, nil, address_of, new_variable, literal_variable, slice_literal, make, append, append_slice, copy, slicing, array_slicing, len, cap, Bound, absent, bound, local, global, indirect, slice_element, none, more, results, read_int, blank, new, to, text, shown, over_int, over_length, over_copy, over_slice, over_pointer, over_pointed, declare, assign, update, bump, discard, block, if_stmt, for_stmt, range, break_stmt, continue_stmt, return_stmt, print, panic, exit, done, next, Steps, here, inner, at_index, argument_words, result_words, type_named, site_type, is_taken, is_made, global_type}
 
 -- ---- types
 
@@ -56,7 +56,7 @@ IsComparable t = (0 < width t) × HasNoSlice t
 
 -- `nil`, which each pointer and each slice can be compared with
 abbrev pub IsNil : Ex → Type 0
-IsNil (nil n) = Unit {0}
+IsNil (nil t) = Unit {0}
 IsNil e = ⊥
 
 -- two operands of a type can be compared
@@ -98,43 +98,51 @@ abbrev pub AllInScope : List ℕ → List ℕ → Type 0
 AllInScope scope [] = Unit {0}
 AllInScope scope (site ∷ sites) = InScope site scope × AllInScope scope sites
 
-abbrev pub new_sites : List Left → ℕ
-new_sites [] = 0
-new_sites (blank ∷ ls) = new_sites ls
-new_sites (new site ∷ ls) = 1 + new_sites ls
-new_sites (to p ∷ ls) = new_sites ls
+-- ---- the numbers of sites: in a function they ascend in the order of the text. What an expression makes has its number among them, so those
+-- of declared variables may leave some out
 
--- the site of a copy is among those that come with what `range` goes over
-abbrev pub over_sites : Over → (others : ℕ) → ℕ
-over_sites (over_int e) others = others
-over_sites (over_length x) others = others
-over_sites (over_copy site e x) others = suc others
-over_sites (over_slice e t) others = others
-over_sites (over_pointer at e x t) others = others
-over_sites (over_pointed x) others = others
+-- the least number that the next site may have after sites, after left sides, and after what `range` goes over
+abbrev pub sites_after : ℕ → List ℕ → ℕ
+sites_after m [] = m
+sites_after m (site ∷ sites) = sites_after (suc site) sites
 
--- how many sites statements have
+abbrev pub lefts_after : ℕ → List Left → ℕ
+lefts_after m [] = m
+lefts_after m (blank ∷ ls) = lefts_after m ls
+lefts_after m (new site ∷ ls) = lefts_after (suc site) ls
+lefts_after m (to p ∷ ls) = lefts_after m ls
+
+-- the copy comes with the word `range`
+abbrev pub over_after : ℕ → Over → ℕ
+over_after m (over_int e) = m
+over_after m (over_length x) = m
+over_after m (over_copy site e x) = suc site
+over_after m (over_slice e t) = m
+over_after m (over_pointer at e x t) = m
+over_after m (over_pointed x) = m
+
+-- and after what statements declare
 abbrev mutual
-  pub births : St → ℕ
-  births (declare sites) = length sites
-  births (assign ls es) = new_sites ls
-  births (update at p op e) = 0
-  births (bump at p op) = 0
-  births (discard es) = 0
-  births (block ss) = births_all ss
-  births (if_stmt e a b) = births_all a + births_all b
-  births (for_stmt sites test post body) = births_all post + births_all body
-  births (range over key value body) = new_sites (key ∷ value ∷ []) + over_sites over (births_all body)
-  births break_stmt = 0
-  births continue_stmt = 0
-  births (return_stmt es) = 0
-  births (print ln ps) = 0
-  births (panic at p) = 0
-  births (exit at e) = 0
+  pub declared_after : ℕ → St → ℕ
+  declared_after m (declare sites) = sites_after m sites
+  declared_after m (assign ls es) = lefts_after m ls
+  declared_after m (update at p op e) = m
+  declared_after m (bump at p op) = m
+  declared_after m (discard es) = m
+  declared_after m (block ss) = all_sites_after m ss
+  declared_after m (if_stmt e a b) = all_sites_after (all_sites_after m a) b
+  declared_after m (for_stmt sites test post body) = all_sites_after (all_sites_after m post) body
+  declared_after m (range over key value body) = all_sites_after (over_after (lefts_after m (key ∷ value ∷ [])) over) body
+  declared_after m break_stmt = m
+  declared_after m continue_stmt = m
+  declared_after m (return_stmt es) = m
+  declared_after m (print ln ps) = m
+  declared_after m (panic at p) = m
+  declared_after m (exit at e) = m
 
-  pub births_all : Sts → ℕ
-  births_all done = 0
-  births_all (next s ss) = births s + births_all ss
+  pub all_sites_after : ℕ → Sts → ℕ
+  all_sites_after m done = m
+  all_sites_after m (next s ss) = all_sites_after (declared_after m s) ss
 
 -- the scope after left sides, and after a statement
 abbrev pub scope_behind : List ℕ → List Left → List ℕ
@@ -151,11 +159,6 @@ abbrev pub scope_after : List ℕ → St → List ℕ
 scope_after scope (declare sites) = scope_with scope sites
 scope_after scope (assign ls es) = scope_behind scope ls
 scope_after scope s = scope
-
--- m of n sites stand before; the next sites are the next ones in the order of the text
-abbrev pub SitesNext : (m n : ℕ) → List ℕ → Type 0
-SitesNext m n [] = Unit {0}
-SitesNext m n (site ∷ sites) = (site ≡ m) × (m < n) × SitesNext (suc m) n sites
 
 -- ---- terminating statements [Go specification, Terminating statements]
 
@@ -196,6 +199,15 @@ module _ (p : Program) where
   IsTaken (local site steps) = is_taken p site ≡ true
   IsTaken q = Unit {0}
 
+  -- a site of declared variables: its number is m at least, and below n
+  abbrev pub IsNext : (m n site : ℕ) → Type 0
+  IsNext m n site = (m ≤ site) × (site < n) × (is_made p site ≡ false)
+
+  -- such sites, in ascending order
+  abbrev pub SitesNext : (m n : ℕ) → List ℕ → Type 0
+  SitesNext m n [] = Unit {0}
+  SitesNext m n (site ∷ sites) = IsNext m n site × SitesNext (suc site) n sites
+
   -- a pointer to variables of a site, which an expression makes
   abbrev pub LeadsToSite : TypeTree → (site : ℕ) → Type 0
   LeadsToSite t site = (n : ℕ) × (t ≡ pointer_to n) × (type_named p n ≡ site_type p site) × (is_taken p site ≡ true)
@@ -231,7 +243,7 @@ module _ (p : Program) where
     ExFits scope t (call f es) = (func : Func) × (slice_get p.funcs f ≡ Some func) × (func.results ≡ t ∷ []) × ExsFit scope func.param_types es
     ExFits scope t (part_of n i e) = (i < part_count (type_named p n)) × (part_type (type_named p n) i ≡ t) × (0 < width t) × ExFits scope (type_named p n) e
     ExFits scope t (literal n es) = (type_named p n ≡ t) × (0 < width t) × ElementsFit scope t es
-    ExFits scope t (nil n) = (type_named p n ≡ t) × IsNilable t
+    ExFits scope t (nil s) = (s ≡ t) × IsNilable t
     ExFits scope t (address_of q) = (n : ℕ) × (t ≡ pointer_to n) × PlFits scope (type_named p n) q × IsTaken q
     ExFits scope t (new_variable site) = LeadsToSite t site
     ExFits scope t (literal_variable site e) = LeadsToSite t site × ExFits scope (site_type p site) e
@@ -272,7 +284,7 @@ module _ (p : Program) where
   abbrev pub LeftsFit : List ℕ → (m n : ℕ) → List TypeTree → List Left → Type 0
   LeftsFit scope m n [] [] = Unit {0}
   LeftsFit scope m n (t ∷ ts) (blank ∷ ls) = LeftsFit scope m n ts ls
-  LeftsFit scope m n (t ∷ ts) (new site ∷ ls) = (site ≡ m) × (m < n) × (site_type p site ≡ t) × LeftsFit scope (suc m) n ts ls
+  LeftsFit scope m n (t ∷ ts) (new site ∷ ls) = IsNext m n site × (site_type p site ≡ t) × LeftsFit scope (suc site) n ts ls
   LeftsFit scope m n (t ∷ ts) (to q ∷ ls) = PlFits scope t q × LeftsFit scope m n ts ls
   LeftsFit scope m n ts ls = ⊥
 
@@ -309,24 +321,24 @@ module _ (p : Program) where
       StFits looped scope m n (bump at q op) = IsStep op × PlFits scope ints q
       StFits looped scope m n (discard es) = (ts : List TypeTree) × ExsFit scope ts es
       StFits looped scope m n (block ss) = StsFit looped scope m n ss
-      StFits looped scope m n (if_stmt e a b) = ExFits scope bools e × StsFit looped scope m n a × StsFit looped scope (m + births_all a) n b
+      StFits looped scope m n (if_stmt e a b) = ExFits scope bools e × StsFit looped scope m n a × StsFit looped scope (all_sites_after m a) n b
       StFits looped scope m n (for_stmt sites test post body) =
-          AllInScope scope sites × TestFits scope test × StsFit false scope m n post × StsFit true scope (m + births_all post) n body
+          AllInScope scope sites × TestFits scope test × StsFit false scope m n post × StsFit true scope (all_sites_after m post) n body
       StFits looped scope m n (range (over_int e) key blank body) =
-          ExFits scope ints e × LeftsFit scope m n (ints ∷ []) (key ∷ []) × StsFit true (scope_behind scope (key ∷ [])) (m + new_sites (key ∷ [])) n body
+          ExFits scope ints e × LeftsFit scope m n (ints ∷ []) (key ∷ []) × StsFit true (scope_behind scope (key ∷ [])) (lefts_after m (key ∷ [])) n body
       StFits looped scope m n (range (over_length x) key blank body) =
-          (x < 2 ^ 63) × LeftsFit scope m n (ints ∷ []) (key ∷ []) × StsFit true (scope_behind scope (key ∷ [])) (m + new_sites (key ∷ [])) n body
+          (x < 2 ^ 63) × LeftsFit scope m n (ints ∷ []) (key ∷ []) × StsFit true (scope_behind scope (key ∷ [])) (lefts_after m (key ∷ [])) n body
       -- the copy comes with the word `range`, after the left sides
       StFits looped scope m n (range (over_copy site e x) key value body) =
-          (r : TypeTree) × (site_type p site ≡ array_of x r) × (0 < width r) × (x < 2 ^ 63) × (site ≡ m + new_sites (key ∷ value ∷ [])) × (site < n) × ExFits scope (array_of x r) e × LeftsFit (site ∷ scope) m n (ints ∷ r ∷ []) (key ∷ value ∷ []) × StsFit true (scope_behind (site ∷ scope) (key ∷ value ∷ [])) (m + new_sites (key ∷ value ∷ []) + 1) n body
+          (r : TypeTree) × (site_type p site ≡ array_of x r) × (0 < width r) × (x < 2 ^ 63) × IsNext (lefts_after m (key ∷ value ∷ [])) n site × ExFits scope (array_of x r) e × LeftsFit (site ∷ scope) m n (ints ∷ r ∷ []) (key ∷ value ∷ []) × StsFit true (scope_behind (site ∷ scope) (key ∷ value ∷ [])) (suc site) n body
       -- a slice is gone over as it is at the start
       StFits looped scope m n (range (over_slice e t) key value body) =
-          (0 < width (type_named p t)) × ExFits scope (slice_of t) e × LeftsFit scope m n (ints ∷ type_named p t ∷ []) (key ∷ value ∷ []) × StsFit true (scope_behind scope (key ∷ value ∷ [])) (m + new_sites (key ∷ value ∷ [])) n body
+          (0 < width (type_named p t)) × ExFits scope (slice_of t) e × LeftsFit scope m n (ints ∷ type_named p t ∷ []) (key ∷ value ∷ []) × StsFit true (scope_behind scope (key ∷ value ∷ [])) (lefts_after m (key ∷ value ∷ [])) n body
       -- what a pointer leads to has no copy, and without elements the pointer is not worked out
       StFits looped scope m n (range (over_pointer at e x t) key value body) =
-          (a : ℕ) × (type_named p a ≡ array_of x (type_named p t)) × (0 < width (type_named p t)) × (x < 2 ^ 63) × IsUsed value × ExFits scope (pointer_to a) e × LeftsFit scope m n (ints ∷ type_named p t ∷ []) (key ∷ value ∷ []) × StsFit true (scope_behind scope (key ∷ value ∷ [])) (m + new_sites (key ∷ value ∷ [])) n body
+          (a : ℕ) × (type_named p a ≡ array_of x (type_named p t)) × (0 < width (type_named p t)) × (x < 2 ^ 63) × IsUsed value × ExFits scope (pointer_to a) e × LeftsFit scope m n (ints ∷ type_named p t ∷ []) (key ∷ value ∷ []) × StsFit true (scope_behind scope (key ∷ value ∷ [])) (lefts_after m (key ∷ value ∷ [])) n body
       StFits looped scope m n (range (over_pointed x) key blank body) =
-          (x < 2 ^ 63) × LeftsFit scope m n (ints ∷ []) (key ∷ []) × StsFit true (scope_behind scope (key ∷ [])) (m + new_sites (key ∷ [])) n body
+          (x < 2 ^ 63) × LeftsFit scope m n (ints ∷ []) (key ∷ []) × StsFit true (scope_behind scope (key ∷ [])) (lefts_after m (key ∷ [])) n body
       StFits looped scope m n break_stmt = looped ≡ true
       StFits looped scope m n continue_stmt = looped ≡ true
       StFits looped scope m n (return_stmt es) = ReturnFits scope wanted named es
@@ -337,18 +349,18 @@ module _ (p : Program) where
 
       pub StsFit : (looped : Bool) → List ℕ → (m n : ℕ) → Sts → Type 0
       StsFit looped scope m n done = Unit {0}
-      StsFit looped scope m n (next s ss) = StFits looped scope m n s × StsFit looped (scope_after scope s) (m + births s) n ss
+      StsFit looped scope m n (next s ss) = StFits looped scope m n s × StsFit looped (scope_after scope s) (declared_after m s) n ss
 
   -- the sites of parameters from m on, and of results with names, in the order of the text, and their types
   abbrev pub ParamsFit : ℕ → List TypeTree → List (Option ℕ) → Type 0
   ParamsFit m [] [] = Unit {0}
   ParamsFit m (t ∷ ts) (None ∷ ps) = ParamsFit m ts ps
-  ParamsFit m (t ∷ ts) (Some site ∷ ps) = (site ≡ m) × (site_type p site ≡ t) × ParamsFit (suc m) ts ps
+  ParamsFit m (t ∷ ts) (Some site ∷ ps) = (site ≡ m) × (is_made p site ≡ false) × (site_type p site ≡ t) × ParamsFit (suc m) ts ps
   ParamsFit m ts ps = ⊥
 
   abbrev pub NamedFit : ℕ → List ℕ → Type 0
   NamedFit m [] = Unit {0}
-  NamedFit m (site ∷ sites) = (site ≡ m) × NamedFit (suc m) sites
+  NamedFit m (site ∷ sites) = (site ≡ m) × (is_made p site ≡ false) × NamedFit (suc m) sites
 
 -- how many parameters have a site
 abbrev pub named_params : List (Option ℕ) → ℕ
@@ -365,7 +377,7 @@ params_scope scope (Some site ∷ ps) = params_scope (site ∷ scope) ps
 abbrev pub scope_in : Func → List ℕ
 scope_in f = scope_with (params_scope [] f.params) f.named
 
--- the number of the first site that the body declares
+-- the least number that a site of the body may have
 abbrev pub body_first : Func → ℕ
 body_first f = f.first + named_params f.params + length f.named
 
@@ -374,7 +386,7 @@ pub record FuncFits (p : Program) (f : Func) : Type 0 where
   pub params : ParamsFit p f.first f.param_types f.params
   pub named : NamedFit p (f.first + named_params f.params) f.named
   pub names : (f.named ≡ []) ⊎ (map (site_type p) f.named ≡ f.results)
-  pub count : f.count ≡ named_params f.params + length f.named + births_all f.body
+  pub count : named_params f.params + length f.named ≤ f.count
   pub body : StsFit p f.results (length f.named) false (scope_in f) (body_first f) (f.first + f.count) f.body
   pub end : (f.results ≡ []) ⊎ (ends_all f.body ≡ true)
   -- arguments and results have at most 65,535 words

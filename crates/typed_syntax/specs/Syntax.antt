@@ -43,8 +43,8 @@ mutual
     part_of : ℕ → ℕ → Ex → Ex
     -- a struct or an array of a type by its number; what no element is for is zero
     literal : ℕ → Elements → Ex
-    -- `nil`, of a type of pointers or of slices by its number
-    nil : ℕ → Ex
+    -- `nil`, of a type of pointers or of slices
+    nil : TypeTree → Ex
     -- the address of a place
     address_of : Pl → Ex
     -- `new`: a pointer to a new variable of a site; and `&` of a literal: one to a new variable that begins with it
@@ -152,13 +152,15 @@ pub record Func : Type 0 where
   pub named : List ℕ
   pub body : Sts
 
--- the functions, the types by their numbers, the type of each site, whether the address of its variables or of a part of them is taken, the
--- bytes of each string, the package variables with their sites and their first values, and the number of `main`
+-- the functions, the types by their numbers, the type of each site, whether the address of its variables or of a part of them is taken,
+-- whether an expression makes them, the bytes of each string, the package variables with their sites and their first values, and the number
+-- of `main`
 pub record Program : Type 0 where
   pub funcs : List Func
   pub types : List TypeTree
   pub sites : List TypeTree
   pub taken : List Bool
+  pub made : List Bool
   pub strings : List (List ℕ)
   pub globals : List (ℕ × Value)
   pub main : ℕ
@@ -213,6 +215,10 @@ global_type p g = site_type p (global_site p g)
 abbrev pub is_taken : Program → ℕ → Bool
 is_taken p site = get_or p.taken site false
 
+-- whether an expression makes a site's variables: no name stands for them
+abbrev pub is_made : Program → ℕ → Bool
+is_made p site = get_or p.made site false
+
 -- the words of a site's variables
 abbrev pub site_width : Program → ℕ → ℕ
 site_width p site = width (site_type p site)
@@ -239,7 +245,7 @@ wide p (read q) = place_width p q
 wide p (call f es) = results_of p f
 wide p (part_of n i e) = width (part_type (type_named p n) i)
 wide p (literal n es) = width (type_named p n)
-wide p (nil n) = width (type_named p n)
+wide p (nil t) = width t
 wide p (slice_literal site es) = 3
 wide p (make at site count room) = 3
 wide p (append site e es) = 3

@@ -16,7 +16,7 @@ use Rattle.typed_syntax.specs.Syntax.{Func, Program}
 use Rattle.typed.specs.Formed.{IsFormed}
 use Rattle.typed.specs.Tables.{Table}
 use Rattle.typed.specs.Trees.{trees}
-use Rattle.typed.specs.View.{func_of, first_value, value_of, global_of, site_types, addresses_taken, program_in, program_of}
+use Rattle.typed.specs.View.{func_of, first_value, value_of, global_of, site_types, addresses_taken, made_by_expressions, program_in, program_of}
 use Rattle.typed.specs.declared.program.Func.{Func as FuncData}
 use Rattle.typed.specs.declared.expr.Const.{Const}
 use Rattle.typed.specs.declared.program.PackageVariable.{PackageVariable}
@@ -275,6 +275,7 @@ module _ (t : Syntax) (p : ProgramData)
         types = types_in names;
         sites = site_types (types_in names) p.sites.items;
         taken = addresses_taken p.sites.items;
+        made = made_by_expressions p.sites.items;
         strings = map (λ (bytes : Vec ℕ). bytes.items) p.strings.items;
         globals = l;
         main = p.main.0;
@@ -284,6 +285,7 @@ module _ (t : Syntax) (p : ProgramData)
         types = types_in names;
         sites = site_types (types_in names) l;
         taken = addresses_taken l;
+        made = made_by_expressions l;
         strings = map (λ (bytes : Vec ℕ). bytes.items) p.strings.items;
         globals = map (begun_at (site_types (types_in names) l)) (globals_in t names);
         main = p.main.0;
@@ -293,6 +295,7 @@ module _ (t : Syntax) (p : ProgramData)
         types = types_in names;
         sites = sites_types t names;
         taken = addresses_taken (sites_in t names);
+        made = made_by_expressions (sites_in t names);
         strings = l;
         globals = map (begun_at (sites_types t names)) (globals_in t names);
         main = p.main.0;

@@ -29,7 +29,7 @@ use Rattle.names.proofs.Trees.{int_tree, bool_tree}
 use Rattle.package_values.specs.declared.items.Role.TheVariants as role
 use Rattle.package_values.specs.Values.{Item, items_in_specs}
 use Rattle.function_heads.specs.PackageBlock.{is_external}
-use Rattle.signatures.proofs.Growth.{Extends, Package, package_of}
+use Rattle.signatures.proofs.Growth.{Extends, Package, package_of, extends_length}
 use Rattle.signatures.proofs.Visible.{HasSite, has_longer, new_site}
 use Rattle.signatures.proofs.InFormEntries.{HasSites, site_is}
 use Rattle.types_go.specs.Functions.{Member, of_function, of_variable, numbered, type_or_int, int_in, truth_in, begins, or_zero, begun_at, behind_variable, initial, members_in, behind_body, behind_function, function, functions, behind_members, globals}
@@ -81,9 +81,6 @@ mapped_back : {A B : Type 0} (f : A → B) (xs : List A) (k : ℕ) (y : B) → s
 mapped_back f [] k y is = absurd (none_some is)
 mapped_back f (x ∷ xs) zero y is = (x, refl, same_some is)
 mapped_back f (x ∷ xs) (suc k) y is = mapped_back f xs k y is
-
-extends_length : (a b : List Site) → Extends a b → length a ≤ length b
-extends_length a b e = let whole = ap length e.1 ∙ length-append a e.0 in omega (arith, whole)
 
 last_site : (sites : List Site) (x : Site) → slice_get (sites ++ x ∷ []) (length sites) ≡ Some x
 last_site [] x = refl

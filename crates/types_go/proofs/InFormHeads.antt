@@ -1,5 +1,5 @@
 -- Typed headers and declarations are in form.
-use Rattle.std.proofs.Common.{◌≡◌, ℕ, ◌+◌, Bool, true, false, cond, List, [], ◌∷◌, inl, inr, map, Option, Some, None, refl, sym, ap, ◌∙◌, subst, arith, length}
+use Rattle.std.proofs.Common.{◌≡◌, ℕ, ◌≤◌, Bool, true, false, cond, List, [], ◌∷◌, inl, inr, map, Option, Some, None, refl, sym, ap, ◌∙◌, subst, arith, length}
 use Rattle.std.specs.Prelude.{option_and_then, is_some}
 use Rattle.std.specs.Option.{option_map}
 use Rattle.std.proofs.lemmas.List.{length-map}
@@ -10,7 +10,8 @@ use Rattle.syntax.specs.Statements as tree
 use Rattle.typed.specs.declared.program.Site.{Site}
 use Rattle.typed_syntax.specs.Syntax.{Ex, Left, St, Sts, Program, blank, new, to, declare, assign, update, bump, discard, block, if_stmt, for_stmt, range, break_stmt, continue_stmt, return_stmt, print, panic, exit, done}
 use Rattle.typed_syntax.specs.Types.{TypeTree, bools}
-use Rattle.typed_syntax.specs.Form.{InScope, AllInScope, births, births_all, scope_behind, scope_after, TestFits, ExFits, StFits, StsFit}
+use Rattle.typed_syntax.specs.Form.{InScope, AllInScope, lefts_after, over_after, declared_after, all_sites_after, scope_behind, scope_after, TestFits, ExFits, StFits, StsFit}
+use Rattle.value_laws.proofs.Ascending.{declared_ordered, all_ordered, st_wider, sts_wider}
 use Rattle.base.specs.declared.value_type.ValueType.{ValueType}
 use Rattle.typed.specs.Tables.{Table}
 use Rattle.typed.specs.Formed.{IsFormed}
@@ -27,7 +28,7 @@ use Rattle.signatures.specs.declared.entries.Role.TheVariants.{Parameter}
 use Rattle.signatures.specs.Entries.{sites_of, entry_left, slot_with, slots_each}
 use Rattle.signatures.proofs.Growth.{Extends, package_of, keeps_grows, grows_types}
 use Rattle.signatures.proofs.Visible.{Visible, shown_site, shown_number, visible_opened, visible_kept}
-use Rattle.signatures.proofs.InFormEntries.{HasSites, Within, within_before, SlotsHave, each_have, with_have, sites_long, left_sites, left_scope, named_scope_of, lefts_of_params, next_of_params, entries_fit}
+use Rattle.signatures.proofs.InFormEntries.{HasSites, Within, within_before, SlotsHave, each_have, with_have, lefts_upto, sites_upto, left_scope, named_scope_of, lefts_of_params, next_of_params, entries_fit}
 use Rattle.simple_statements.specs.SimpleStatements.{is_bare, simple_statement, spec_slots_of, spec_slots, behind_spec, spec_entries, is_known, spec_declared, spec_assigned, spec_statement, taken_types}
 use Rattle.simple_statements.proofs.SettledValues.{allowed_is}
 use Rattle.simple_statements.proofs.SettledSimple.{assignment_some}
@@ -35,14 +36,10 @@ use Rattle.simple_statements.proofs.Growth.{grows_simple}
 use Rattle.simple_statements.proofs.InFormSimple.{Formed, StFormed, Still, accepted_long, simple_still, simple_formed}
 use Rattle.types_go.specs.Ranges.{behind_range, range_in}
 use Rattle.types_go.specs.Statements.{Choice, Head, for_clause, range_clause, alone, new_in, declared_in, headed, chosen, for_of, header, init_statement, post_simple, post_statement, behind_post_simple, behind_post, guard_head, clause_scope, clause_head}
-use Rattle.types_go.proofs.InFormRanges.{RangeFits, range_scope, over_later, range_fits}
+use Rattle.types_go.proofs.InFormRanges.{RangeFits, range_scope, range_fits}
 use Rattle.types_go.proofs.StatementGrowth.{grows_header, keeps_post}
 
 -- ---- init statements
-
-abbrev pub init_births : Option St → ℕ
-init_births None = 0
-init_births (Some t) = births t
 
 abbrev pub init_scope : List ℕ → Option St → List ℕ
 init_scope scope None = scope
@@ -93,7 +90,7 @@ module _ (T : Table) (text : List ℕ) (p : Program) (all : List Site) (has : Ha
   Formed1 looped s scope after t = StFormed T text p all has wanted1 named looped s scope after t
 
   abbrev pub StsFormed : (looped : Bool) → Scope → List ℕ → Scope → Sts → Type 0
-  StsFormed looped s scope after b = Formed s after (births_all b) (λ m n. StsFit p wanted1 named looped scope m n b)
+  StsFormed looped s scope after b = Formed s after (all_sites_after (length s.sites) b) (λ m n. StsFit p wanted1 named looped scope m n b)
 
   -- a header's init statement between the scope outside and that after it
   pub record InitFits (looped : Bool) (s : Scope) (scope : List ℕ) (h : Scope) (i : Option St) : Type 0 where
@@ -104,7 +101,7 @@ module _ (T : Table) (text : List ℕ) (p : Program) (all : List Site) (has : Ha
   no_init : (looped : Bool) (s : Scope) (scope : List ℕ) → Visible s scope → InitFits looped s scope (opened s) None
   no_init looped s scope visible = record {
     visible = visible_opened s scope visible;
-    headed_fits = λ after t still f. record { count = f.count; fit = f.fit };
+    headed_fits = λ after t still f. record { more = f.more; upto = f.upto; fit = f.fit };
     keeps = λ t still. still scope;
   }
 
@@ -112,8 +109,9 @@ module _ (T : Table) (text : List ℕ) (p : Program) (all : List Site) (has : Ha
   some_init looped s scope h i k = record {
     visible = k.1;
     headed_fits = λ after t still f. record {
-      count = omega (arith, k.0.count, f.count);
-      fit = λ n le. (k.0.fit n (omega (arith, le, f.count)), (subst (λ j. StFits p wanted1 named looped (scope_after scope i) j n t) (sym k.0.count) (f.fit n le), tt));
+      more = omega (arith, k.0.more, f.more);
+      upto = omega (arith, declared_ordered (declared_after (length s.sites) i) (length h.sites) k.0.upto t, f.upto);
+      fit = λ n le. (k.0.fit n (omega (arith, le, f.more)), (st_wider p wanted1 named looped (scope_after scope i) (length h.sites) (declared_after (length s.sites) i) n n k.0.upto (omega arith) t (f.fit n le), tt));
     };
     keeps = λ t still. refl;
   }
@@ -147,8 +145,9 @@ module _ (T : Table) (text : List ℕ) (p : Program) (all : List Site) (has : Ha
     choice_formed looped h inner after c y z fits a b =
         fits.0.headed_fits after (if_stmt c.condition y z) (λ sc. refl)
         (record {
-          count = omega (arith, a.count, b.count);
-          fit = λ n le. (fits.1, a.fit n (omega (arith, le, b.count)), subst (λ j. StsFit p wanted1 named looped (init_scope scope c.init) j n z) (sym a.count) (b.fit n le));
+          more = omega (arith, a.more, b.more);
+          upto = omega (arith, all_ordered (all_sites_after (length h.sites) y) (length inner.sites) a.upto z, b.upto);
+          fit = λ n le. (fits.1, a.fit n (omega (arith, le, b.more)), sts_wider p wanted1 named looped (init_scope scope c.init) (length inner.sites) (all_sites_after (length h.sites) y) n n a.upto (omega arith) z (b.fit n le));
         })
 
     -- ---- a loop
@@ -156,7 +155,7 @@ module _ (T : Table) (text : List ℕ) (p : Program) (all : List Site) (has : Ha
     -- its header in form, and the scope of its body
     abbrev pub HeadFits : (looped : Bool) → Scope → Head → Type 0
     HeadFits looped h (for_clause init test1 post) =
-        InitFits looped s scope h init × TestFits p (init_scope scope init) test1 × (births_all post ≡ 0) × ((m n : ℕ) → StsFit p wanted1 named false (init_scope scope init) m n post)
+        InitFits looped s scope h init × TestFits p (init_scope scope init) test1 × ((m : ℕ) → all_sites_after m post ≡ m) × ((m n : ℕ) → StsFit p wanted1 named false (init_scope scope init) m n post)
     HeadFits looped h (range_clause r) = RangeFits T text p all has wanted1 named looped s scope h r
 
     abbrev pub head_scope : Head → List ℕ
@@ -171,15 +170,16 @@ module _ (T : Table) (text : List ℕ) (p : Program) (all : List Site) (has : Ha
     loop_formed looped h after (for_clause init test1 post) y fits a =
         fits.0.headed_fits after (for_stmt (declared_in init) test1 post y) (λ sc. refl)
         (record {
-          count = omega (arith, a.count, fits.2);
-          fit = λ n le. (declared_in_scope scope init, fits.1, fits.3 (length h.sites) n, subst (λ j. StsFit p wanted1 named true (init_scope scope init) j n y) (moved fits.2) (a.fit n le));
+          more = a.more;
+          upto = subst (λ j. all_sites_after j y ≤ length after.sites) (sym (fits.2 (length h.sites))) a.upto;
+          fit = λ n le. (declared_in_scope scope init, fits.1, fits.3 (length h.sites) n, subst (λ j. StsFit p wanted1 named true (init_scope scope init) j n y) (sym (fits.2 (length h.sites))) (a.fit n le));
         })
-      where
-        moved : births_all post ≡ 0 → length h.sites ≡ length h.sites + births_all post
-        moved is = omega (arith, is)
     loop_formed looped h after (range_clause r) y fits a =
-        let later = over_later r.over (births_all y) in
-        record { count = omega (arith, a.count, fits.count, later); fit = λ n le. fits.fit n (omega (arith, le, a.count)) y (a.fit n le) }
+        record {
+          more = omega (arith, fits.more, a.more);
+          upto = omega (arith, all_ordered (over_after (lefts_after (length s.sites) (r.key ∷ r.value ∷ [])) r.over) (length h.sites) fits.upto y, a.upto);
+          fit = λ n le. fits.fit n (omega (arith, le, a.more)) y (a.fit n le);
+        }
 
     pub loop_keeps : (looped : Bool) (h : Scope) (k : Head) (y : Sts) → HeadFits looped h k → scope_after scope (for_of k y) ≡ scope
     loop_keeps looped h (for_clause init test1 post) y fits = fits.0.keeps (for_stmt (declared_in init) test1 post y) (λ sc. refl)
@@ -189,16 +189,16 @@ module _ (T : Table) (text : List ℕ) (p : Program) (all : List Site) (has : Ha
     optional_test sc None fits = tt
     optional_test sc (Some e) fits = fits
 
-    -- a post statement bears no site
+    -- a post statement declares no site
     abbrev PostFits : List ℕ → Sts → Type 0
-    PostFits sc b = (births_all b ≡ 0) × ((m n : ℕ) → StsFit p wanted1 named false sc m n b)
+    PostFits sc b = ((m : ℕ) → all_sites_after m b ≡ m) × ((m n : ℕ) → StsFit p wanted1 named false sc m n b)
 
     post_fits : (h : Scope) (sc : List ℕ) (post : Option Simple) (b : Sts) → Visible h sc → h.types ≡ T → Agrees h p → Within p all (behind_post text h post) → post_statement text h post ≡ Some b → PostFits sc b
-    post_fits h sc None b v h_types agrees ext is = subst (λ (x : Sts). PostFits sc x) (same_some is) (refl, λ m n. tt)
+    post_fits h sc None b v h_types agrees ext is = subst (λ (x : Sts). PostFits sc x) (same_some is) (λ m. refl, λ m n. tt)
     post_fits h sc (Some k) b v h_types agrees ext is =
         let q = map_some alone (post_simple text h k) b is in
         let f = by k q.0 ext q.1 in
-        subst (λ (x : Sts). PostFits sc x) q.2 (omega (arith, f.0), λ m n. (f.1 m n, tt))
+        subst (λ (x : Sts). PostFits sc x) q.2 (λ m. f.0 m, λ m n. (f.1 m n, tt))
       where
         by : (m : Simple) (t : St) → Within p all (behind_post_simple text h m) → post_simple text h m ≡ Some t → Still T text p all has wanted1 named false sc t
         by (tree.express e) t ext1 is1 = simple_still T text p all has wanted1 named false h sc v h_types agrees (tree.express e) t tt ext1 is1
@@ -224,17 +224,17 @@ module _ (T : Table) (text : List ℕ) (p : Program) (all : List Site) (has : Ha
         record {
           visible = visible_kept h (behind_post text h post) (init_scope scope i) k.visible (keeps_post text h post);
           headed_fits = λ after t still f. k.headed_fits after t still
-              (record { count = omega (arith, f.count, same1); fit = λ n le. subst (λ j. StFits p wanted1 named looped (init_scope scope i) j n t) same1 (f.fit n le) });
+              (record { more = omega (arith, f.more, same1); upto = subst (λ j. declared_after j t ≤ length after.sites) same1 f.upto; fit = λ n le. subst (λ j. StFits p wanted1 named looped (init_scope scope i) j n t) same1 (f.fit n le) });
           keeps = k.keeps;
         }
 
     pub clause_fits : (looped : Bool) (c : Clause) (k : Head) → clause_head text s c ≡ Some k → Within p all (clause_scope text s c) → HeadFits looped (clause_scope text s c) k
-    clause_fits looped forever k is ext = subst (λ (x : Head). HeadFits looped (opened s) x) (same_some is) (no_init looped s scope visible, tt, refl, λ m n. tt)
+    clause_fits looped forever k is ext = subst (λ (x : Head). HeadFits looped (opened s) x) (same_some is) (no_init looped s scope visible, tt, λ m. refl, λ m n. tt)
     clause_fits looped (while_true e) k is ext =
         let r = and_then_some (λ x. option_map (for_clause None x) (Some done)) (option_map Some (condition text (opened s) e)) k is in
         let q = map_some Some (condition text (opened s) e) r.0 r.1 in
         let fits = condition_fits p scope text (opened s) (shown_site (opened s) scope (visible_opened s scope visible)) (shown_number (opened s) scope (visible_opened s scope visible)) (visible_opened s scope visible).held (agreed (opened s) refl ext.0) e q.0 q.1 in
-        subst (λ (x : Head). HeadFits looped (opened s) x) (same_some (ap (λ (x : Option Ex). Some (for_clause None x done)) q.2 ∙ r.2)) (no_init looped s scope visible, fits, refl, λ m n. tt)
+        subst (λ (x : Head). HeadFits looped (opened s) x) (same_some (ap (λ (x : Option Ex). Some (for_clause None x done)) q.2 ∙ r.2)) (no_init looped s scope visible, fits, λ m. refl, λ m n. tt)
     clause_fits looped (counting init test1 post) k is ext =
         let h = header text s init in
         let r = and_then_some (λ i. option_and_then (λ x. option_map (for_clause i x) (post_statement text h post)) (test text h test1)) (init_statement text s init) k is in
@@ -258,9 +258,12 @@ module _ (T : Table) (text : List ℕ) (p : Program) (all : List Site) (has : Ha
         let q = map_some (λ es. declare (sites_of es)) (spec_entries text s v) t is in
         let f = entries_fit T text p all has Parameter s scope (spec_slots text s v) ts q.0 types_are visible have q.1 ext in
         let after = behind_spec text s v in
-        let long = sites_long q.0 in
         subst (λ (x : St). Formed1 looped s scope after x × Visible after (scope_after scope x)) q.2 (
-          record { count = omega (arith, f.count, long); fit = λ n le. next_of_params p (length s.sites) n (type_trees T ts) q.0 f.fit (omega (arith, le, f.count)) },
+          record {
+            more = omega (arith, f.count);
+            upto = omega (arith, sites_upto p (length s.sites) (type_trees T ts) q.0 f.fit, f.count);
+            fit = λ n le. next_of_params p (length s.sites) n (type_trees T ts) q.0 f.fit (omega (arith, le, f.count));
+          },
           subst (λ (w : List ℕ). Visible after w) (named_scope_of scope q.0) f.visible,
         )
 
@@ -274,9 +277,12 @@ module _ (T : Table) (text : List ℕ) (p : Program) (all : List Site) (has : Ha
         let found = ap (option_and_then (λ x. value_types (seen text s v.values))) a.3 ∙ values.found in
         let q = map_some (map entry_left) (spec_entries text s v) a.0 a.2 in
         let f = entries_fit T text p all has Parameter s scope (spec_slots text s v) values.types q.0 types_are visible (have values.types found values.accepted) q.1 ext in
-        let born = left_sites q.0 in
         subst (λ (x : St). Formed1 looped s scope after x × Visible after (scope_after scope x)) (ap (λ (l : List Left). assign l a.1) q.2 ∙ a.4) (
-          record { count = omega (arith, f.count, born); fit = λ n le. (type_trees T values.types, lefts_of_params p scope (length s.sites) n (type_trees T values.types) q.0 f.fit (omega (arith, le, f.count)), values.fit) },
+          record {
+            more = omega (arith, f.count);
+            upto = omega (arith, lefts_upto p (length s.sites) (type_trees T values.types) q.0 f.fit, f.count);
+            fit = λ n le. (type_trees T values.types, lefts_of_params p scope (length s.sites) n (type_trees T values.types) q.0 f.fit (omega (arith, le, f.count)), values.fit);
+          },
           subst (λ (w : List ℕ). Visible after w) (sym (left_scope scope q.0)) f.visible,
         )
 

@@ -117,7 +117,7 @@ all_long (Some site ∷ es) every = ap suc (all_long es every)
 
 all_types : (p : Program) (m : ℕ) (ts : List TypeTree) (es : List (Option ℕ)) → AllSites es → ParamsFit p m ts es → map (site_type p) (sites_of es) ≡ ts
 all_types p m [] [] every fit = refl
-all_types p m (t ∷ ts) (Some site ∷ es) every fit = ap (λ x. x ∷ map (site_type p) (sites_of es)) fit.1 ∙ ap (λ l. t ∷ l) (all_types p (suc m) ts es every fit.2)
+all_types p m (t ∷ ts) (Some site ∷ es) every fit = ap (λ x. x ∷ map (site_type p) (sites_of es)) fit.2 ∙ ap (λ l. t ∷ l) (all_types p (suc m) ts es every fit.3)
 all_types p m (t ∷ ts) (None ∷ es) every fit = absurd every
 all_types p m [] (e ∷ es) every fit = absurd fit
 all_types p m (t ∷ ts) [] every fit = absurd fit
@@ -262,25 +262,25 @@ module _ (text : List ℕ) (heads : Scope) where
         let ext_params = extends_twice (behind_params text heads s g).sites inner.sites all (grows_results text heads s g).sites ext_inner in
         let types_are : s.types ≡ heads.types = ap (λ (q : Package). q.types) signed ∙ own_types in
         let params_types : (behind_params text heads s g).types ≡ heads.types = ap (λ (q : Package). q.types) (grows_params text heads s g).kept ∙ types_are in
-        let one1 = entries_fit heads.types text p all has Parameter (params_opened s) [] (slots_of text heads g.params) types.0 ps types_are (visible_opened (declares kind.Parameter s) [] (visible_set s [] (declaring kind.Parameter s.setting) visible)) have_params k.3.3 ext_params in
-        let two1 = entries_fit heads.types text p all has Result (behind_params text heads s g) (params_scope [] ps) (slots_of text heads g.results) types.1 rs params_types (visible_set behind1 (params_scope [] ps) (declaring kind.Result behind1.setting) one1.visible) have_results k.3.4 ext_inner in
+        let one1 = entries_fit heads.types text p all has Parameter (params_opened s) [] (slots_of text heads g.params) types.0 ps types_are (visible_opened (declares kind.Parameter s) [] (visible_set s [] (declaring kind.Parameter s.setting) refl visible)) have_params k.3.3 ext_params in
+        let two1 = entries_fit heads.types text p all has Result (behind_params text heads s g) (params_scope [] ps) (slots_of text heads g.results) types.1 rs params_types (visible_set behind1 (params_scope [] ps) (declaring kind.Result behind1.setting) refl one1.visible) have_results k.3.4 ext_inner in
         let long : length rs ≡ length (params_of g.results) = two1.long ∙ slots_long g.results in
         let goes = returns_fit (behind_params text heads s g) g types.1 rs have_results k.3.4 long in
-        let lines = formed_all heads.types text p all has formed no_slice own own_types agrees numbered (returns_of text heads g) results1 (length (sites_of rs)) goes false inner (params_scope (params_scope [] ps) rs) b.statements body (visible_set behind2 (params_scope (params_scope [] ps) rs) (declaring kind.Variable behind2.setting) two1.visible) ((grows_body text heads s g).kept ∙ signed) ext k.3.5 in
+        let lines = formed_all heads.types text p all has formed no_slice own own_types agrees numbered (returns_of text heads g) results1 (length (sites_of rs)) goes false inner (params_scope (params_scope [] ps) rs) b.statements body (visible_set behind2 (params_scope (params_scope [] ps) rs) (declaring kind.Variable behind2.setting) refl two1.visible) ((grows_body text heads s g).kept ∙ signed) ext k.3.5 in
         let t0 = func text heads s g b ps rs body in
         let named_long = sites_long rs in
         let param_types_are = trees_are heads.types (slots_of text heads g.params) types.0 have_params in
         let result_types_are = trees_are heads.types (slots_of text heads g.results) types.1 have_results in
         let first_is : t0.first + with_sites ps ≡ length (behind_params text heads s g).sites = one1.count in
         let body_is : body_first t0 ≡ length inner.sites = omega (arith, one1.count, two1.count, named_long) in
-        let whole : t0.first + t0.count ≡ length last1.sites = omega (arith, one1.count, two1.count, lines.count) in
+        let whole : t0.first + t0.count ≡ length last1.sites = omega (arith, one1.count, two1.count, lines.more) in
         let statements1 : StsFit p results1 (length (sites_of rs)) false (params_scope (params_scope [] ps) rs) (length inner.sites) (length last1.sites) body = lines.fit (length last1.sites) (omega arith) in
         subst (FuncFits p) k.3.6
         (record {
           params = subst (λ l. ParamsFit p (length s.sites) l ps) (sym param_types_are) one1.fit;
           named = subst (λ m. NamedFit p m (sites_of rs)) (sym first_is) (named_of_params p (length (behind_params text heads s g).sites) (type_trees heads.types types.1) rs two1.fit);
           names = names_of p (length (behind_params text heads s g).sites) (behind_params text heads s g) g.results results1 rs k.3.4 (subst (λ l. ParamsFit p (length (behind_params text heads s g).sites) l rs) (sym result_types_are) two1.fit);
-          count = omega (arith, one1.count, two1.count, lines.count, named_long);
+          count = omega (arith, one1.count, two1.count, lines.more, named_long);
           body = subst (λ n. StsFit p results1 (length (sites_of rs)) false (scope_in t0) (body_first t0) n body) (sym whole)
               (subst (λ m. StsFit p results1 (length (sites_of rs)) false (scope_in t0) m (length last1.sites) body) (sym body_is)
               (subst (λ (l : List ℕ). StsFit p results1 (length (sites_of rs)) false l (length inner.sites) (length last1.sites) body) (named_scope_of (params_scope [] ps) rs) statements1));
@@ -424,7 +424,7 @@ in_form t p a formed =
     let all = last1.sites in
     let p0 = program_with t h a.funcs a.main in
     let own_types : s.types ≡ h.types = block_types t.text h h.types (block_with h) ds refl in
-    let has : HasSites h.types p0 all = record { types = refl; sites = refl } in
+    let has : HasSites h.types p0 all = record { types = refl; sites = refl; made = refl } in
     let agrees = agree t.text h s gs a.funcs (package_signatures t.text h ds ∙ ap (map (signature_in t.text h)) (sym same_functions)) found in
     let numbered1 : AreGlobals h.types (package_of s) p0 = globals_agree t.text h h.types p0 all has s own_types gs (package_globals t.text h ds) refl refl in
     let g = main_some t h a.main a.main_is in

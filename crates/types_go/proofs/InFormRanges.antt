@@ -15,9 +15,10 @@ use Rattle.syntax.specs.Statements.{Targets, no_targets, targets_assigned, targe
 use Rattle.typed.specs.declared.program.Site.{Site}
 use Rattle.typed.specs.Tables.{Table, type_at}
 use Rattle.typed.specs.Formed.{IsFormed}
-use Rattle.typed_syntax.specs.Syntax.{Ex, Left, Over, Sts, Program, blank, new, to, over_int, over_length, over_copy, over_slice, over_pointer, over_pointed, site_type}
+use Rattle.typed_syntax.specs.Syntax.{Ex, Left, Over, Sts, Program, blank, new, to, over_int, over_length, over_copy, over_slice, over_pointer, over_pointed, site_type, is_made}
 use Rattle.typed_syntax.specs.Types.{TypeTree, ints, array_of}
-use Rattle.typed_syntax.specs.Form.{LeftsFit, new_sites, over_sites, scope_behind, ExFits, StFits, StsFit, named_params as with_sites}
+use Rattle.typed_syntax.specs.Form.{LeftsFit, lefts_after, over_after, scope_behind, ExFits, StFits, StsFit}
+use Rattle.value_laws.proofs.Ascending.{key_after, sts_wider}
 use Rattle.type_faults.specs.Given.{allowed}
 use Rattle.type_faults.proofs.Options.{and_then_some, map_some, none_some, same_some}
 use Rattle.operators.specs.Operands.{type_of, as_value}
@@ -40,8 +41,8 @@ use Rattle.signatures.specs.declared.slots.Slot.{Slot}
 use Rattle.signatures.specs.declared.entries.Role.TheVariants.{Parameter}
 use Rattle.signatures.specs.Entries.{entry_left, slots_each, entries, behind_entries}
 use Rattle.signatures.proofs.Growth.{Extends, package_of, extends_twice, grows_types, grows_entries}
-use Rattle.signatures.proofs.Visible.{IsShown, new_site, Visible, shown_site, shown_number, visible_opened, visible_kept}
-use Rattle.signatures.proofs.InFormEntries.{HasSites, site_shown, SlotsHave, left_sites, left_scope, lefts_of_params, entries_fit}
+use Rattle.signatures.proofs.Visible.{IsShown, new_site, new_unmade, Visible, shown_site, shown_number, visible_opened, visible_kept}
+use Rattle.signatures.proofs.InFormEntries.{HasSites, site_shown, unmade_shown, SlotsHave, lefts_upto, left_scope, lefts_of_params, entries_fit}
 use Rattle.simple_statements.specs.SimpleStatements.{left, lefts, wanted, all_wanted}
 use Rattle.simple_statements.proofs.SettledValues.{allowed_is}
 use Rattle.simple_statements.proofs.InFormSimple.{OldFit, known_all, lefts_fit}
@@ -52,16 +53,11 @@ use Rattle.types_go.proofs.SettledRanges.{RangeParts, range_parts, entries_long,
 
 -- ---- two left sides, one of which may be absent
 
-sides_sites : (l : List Left) (q : Sides) → sides_of l ≡ Some q → new_sites l ≡ new_sites (q.key ∷ q.value ∷ [])
-sides_sites [] q is = ap (λ (k : Sides). new_sites (k.key ∷ k.value ∷ [])) (same_some is)
-sides_sites (x ∷ []) q is = by x ∙ ap (λ (k : Sides). new_sites (k.key ∷ k.value ∷ [])) (same_some is)
-  where
-    by : (y : Left) → new_sites (y ∷ []) ≡ new_sites (y ∷ blank ∷ [])
-    by blank = refl
-    by (new site) = refl
-    by (to q1) = refl
-sides_sites (x ∷ y ∷ []) q is = ap (λ (k : Sides). new_sites (k.key ∷ k.value ∷ [])) (same_some is)
-sides_sites (x ∷ y ∷ z ∷ l) q is = absurd (none_some is)
+sides_after : (m : ℕ) (l : List Left) (q : Sides) → sides_of l ≡ Some q → lefts_after m l ≡ lefts_after m (q.key ∷ q.value ∷ [])
+sides_after m [] q is = ap (λ (k : Sides). lefts_after m (k.key ∷ k.value ∷ [])) (same_some is)
+sides_after m (x ∷ []) q is = sym (key_after m x) ∙ ap (λ (k : Sides). lefts_after m (k.key ∷ k.value ∷ [])) (same_some is)
+sides_after m (x ∷ y ∷ []) q is = ap (λ (k : Sides). lefts_after m (k.key ∷ k.value ∷ [])) (same_some is)
+sides_after m (x ∷ y ∷ z ∷ l) q is = absurd (none_some is)
 
 blank_scope : (wide : List ℕ) (x : Left) → scope_behind wide (x ∷ blank ∷ []) ≡ scope_behind wide (x ∷ [])
 blank_scope wide blank = refl
@@ -101,12 +97,12 @@ module _ (p : Program) (wide : List ℕ) (m n : ℕ) (a b : TypeTree) where
 
   one_padded : (x : Left) → LeftsFit p wide m n (a ∷ []) (x ∷ []) → Fit (record { key = x; value = blank })
   one_padded blank fit = tt
-  one_padded (new site) fit = (fit.0, fit.1, fit.2, tt)
+  one_padded (new site) fit = (fit.0, fit.1, tt)
   one_padded (to q) fit = (fit.0, tt)
 
   one_only : (x : Left) → Fit (record { key = x; value = blank }) → LeftsFit p wide m n (a ∷ []) (x ∷ [])
   one_only blank fit = tt
-  one_only (new site) fit = (fit.0, fit.1, fit.2, tt)
+  one_only (new site) fit = (fit.0, fit.1, tt)
   one_only (to q) fit = (fit.0, tt)
 
   padded_none : (l : List Left) (q : Sides) → sides_of l ≡ Some q → LeftsFit p wide m n [] l → Fit q
@@ -117,13 +113,13 @@ module _ (p : Program) (wide : List ℕ) (m n : ℕ) (a b : TypeTree) where
   padded_one [] q is fit = absurd fit
   padded_one (x ∷ []) q is fit = subst Fit (same_some is) (one_padded x fit)
   padded_one (blank ∷ y ∷ l) q is fit = absurd fit
-  padded_one (new site ∷ y ∷ l) q is fit = absurd fit.3
+  padded_one (new site ∷ y ∷ l) q is fit = absurd fit.2
   padded_one (to q1 ∷ y ∷ l) q is fit = absurd fit.1
 
   padded_two : (l : List Left) (q : Sides) → sides_of l ≡ Some q → LeftsFit p wide m n (a ∷ b ∷ []) l → Fit q
   padded_two [] q is fit = absurd fit
   padded_two (blank ∷ []) q is fit = absurd fit
-  padded_two (new site ∷ []) q is fit = absurd fit.3
+  padded_two (new site ∷ []) q is fit = absurd fit.2
   padded_two (to q1 ∷ []) q is fit = absurd fit.1
   padded_two (x ∷ y ∷ []) q is fit = subst Fit (same_some is) fit
   padded_two (x ∷ y ∷ z ∷ l) q is fit = absurd (none_some is)
@@ -147,7 +143,7 @@ wider_shown T scope v sites globals (declared.Global k g) h = h
 wider_shown T scope v sites globals d h = tt
 
 visible_wider : (s : Scope) (scope : List ℕ) (v : ℕ) → Visible s scope → Visible s (v ∷ scope)
-visible_wider s scope v visible = record { bounded = visible.bounded; shown = λ name d is. wider_shown s.types scope v s.sites s.globals d (visible.shown name d is); held = visible.held }
+visible_wider s scope v visible = record { bounded = visible.bounded; shown = λ name d is. wider_shown s.types scope v s.sites s.globals d (visible.shown name d is); held = visible.held; kinds = visible.kinds }
 
 -- ---- arrays
 
@@ -193,21 +189,14 @@ nothing_copied : (n : Option ℕ) → copied (Some numbers) n ≡ None
 nothing_copied None = refl
 nothing_copied (Some n) = refl
 
-pub over_later : (o : Over) (others : ℕ) → over_sites o others ≡ over_sites o 0 + others
-over_later (over_int e) others = omega arith
-over_later (over_length n) others = omega arith
-over_later (over_copy site e n) others = omega arith
-over_later (over_slice e n) others = omega arith
-over_later (over_pointer at e x n) others = omega arith
-over_later (over_pointed x) others = omega arith
-
 -- ---- left sides
 
 module _ (T : Table) (text : List ℕ) (p : Program) (all : List Site) (has : HasSites T p all) (s : Scope) (types_are : s.types ≡ T) where
   -- in a scope with these variables, for values of these types
   record SidesFit (wide : List ℕ) (h : Scope) (a b : ValueType) (q : Sides) : Type 0 where
     shows : Visible h (scope_behind wide (q.key ∷ q.value ∷ []))
-    count : length s.sites + new_sites (q.key ∷ q.value ∷ []) ≡ length h.sites
+    more : length s.sites ≤ length h.sites
+    upto : lefts_after (length s.sites) (q.key ∷ q.value ∷ []) ≤ length h.sites
     fit : (n : ℕ) → length h.sites ≤ n → LeftsFit p wide (length s.sites) n (type_tree T a ∷ type_tree T b ∷ []) (q.key ∷ q.value ∷ [])
 
   module _ (wide : List ℕ) (visible : Visible s wide) (agrees : Agrees (opened s) p) (a b : ValueType) where
@@ -216,10 +205,11 @@ module _ (T : Table) (text : List ℕ) (p : Program) (all : List Site) (has : Ha
 
     old_sides : (ts : List ValueType) (l : List Left) (q : Sides) → sides_of l ≡ Some q → Pads ts l q → OldFit T p wide ts l → SidesFit wide (opened s) a b q
     old_sides ts l q is pads old =
-        let none : new_sites (q.key ∷ q.value ∷ []) ≡ 0 = sym (sides_sites l q is) ∙ old.sites in
+        let none : lefts_after (length s.sites) (q.key ∷ q.value ∷ []) ≡ length s.sites = sym (sides_after (length s.sites) l q is) ∙ old.sites (length s.sites) in
         record {
           shows = subst (λ (w : List ℕ). Visible (opened s) w) (sym (old.behind wide) ∙ sides_scope wide l q is) (visible_opened s wide visible);
-          count = omega (arith, none);
+          more = omega arith;
+          upto = omega (arith, none);
           fit = λ n le. pads (length s.sites) n (old.fit (length s.sites) n);
         }
 
@@ -253,10 +243,11 @@ module _ (T : Table) (text : List ℕ) (p : Program) (all : List Site) (has : Ha
         let h = behind_entries text (opened s) slots in
         let l = map entry_left es in
         let f = entries_fit T text p all has Parameter (opened s) wide slots ts es types_are (visible_opened s wide visible) have found ext in
-        let born : with_sites es ≡ new_sites (q.key ∷ q.value ∷ []) = sym (left_sites es) ∙ sides_sites l q is in
+        let upto = lefts_upto p (length s.sites) (type_trees T ts) es f.fit in
         record {
           shows = subst (λ (w : List ℕ). Visible h w) (sym (left_scope wide es) ∙ sides_scope wide l q is) f.visible;
-          count = omega (arith, born, f.count);
+          more = omega (arith, f.count);
+          upto = subst (λ k. k ≤ length h.sites) (sides_after (length s.sites) l q is) (omega (arith, upto, f.count));
           fit = λ n le. pads (length s.sites) n (lefts_of_params p wide (length s.sites) n (type_trees T ts) es f.fit (omega (arith, le, f.count)));
         }
 
@@ -276,7 +267,7 @@ module _ (T : Table) (text : List ℕ) (p : Program) (all : List Site) (has : Ha
         → SidesFit wide (behind_entries text (opened s) (target_slots (Some (a ∷ b ∷ [])) t)) a b q
     sides_fit no_targets l q ext found is =
         let empty : sides_of [] ≡ Some q = ap sides_of (same_some found) ∙ is in
-        subst (λ (k : Sides). SidesFit wide (opened s) a b k) (same_some empty) (record { shows = visible_opened s wide visible; count = omega arith; fit = λ n le. tt })
+        subst (λ (k : Sides). SidesFit wide (opened s) a b k) (same_some empty) (record { shows = visible_opened s wide visible; more = omega arith; upto = omega arith; fit = λ n le. tt })
     sides_fit (targets_assigned ls at) l q ext found is =
         let k = allowed_is (each_accept (a ∷ b ∷ []) (all_wanted text (opened s) ls)) (lefts text (opened s) ls) l found in
         assigned_fits ls l q k.1 k.0 is
@@ -304,7 +295,8 @@ module _ (T : Table) (text : List ℕ) (p : Program) (all : List Site) (has : Ha
   -- between the scope outside and that after the header
   pub record RangeFits (looped : Bool) (s : Scope) (scope : List ℕ) (h : Scope) (r : Range) : Type 0 where
     pub visible : Visible h (range_scope scope r)
-    pub count : length s.sites + (new_sites (r.key ∷ r.value ∷ []) + over_sites r.over 0) ≡ length h.sites
+    pub more : length s.sites ≤ length h.sites
+    pub upto : over_after (lefts_after (length s.sites) (r.key ∷ r.value ∷ [])) r.over ≤ length h.sites
     pub fit : (n : ℕ) → length h.sites ≤ n → (y : Sts) → StsFit p wanted1 named true (range_scope scope r) (length h.sites) n y → StFits p wanted1 named looped scope (length s.sites) n (range_stmt r y)
 
   module _ (s : Scope) (scope : List ℕ) (visible : Visible s scope) (types_are : s.types ≡ T) (formed : IsFormed T) (agreed : (r : Scope) → package_of r ≡ package_of s → Extends r.sites all → Agrees r p) where
@@ -330,30 +322,26 @@ module _ (T : Table) (text : List ℕ) (p : Program) (all : List Site) (has : Ha
           fit = subst (λ (U : Table). ExFits p scope (type_tree U u.0) x) types_are (value_fits s.types p scope agrees.formed y.0 u.0 x u.1 fits value1);
         }
 
-    -- the sites of a blank second left side
-    alone_sites : (key : Left) → new_sites (key ∷ blank ∷ []) ≡ new_sites (key ∷ [])
-    alone_sites blank = refl
-    alone_sites (new site) = refl
-    alone_sites (to q) = refl
-
     int_first : (wide : List ℕ) (m n : ℕ) (u : TypeTree) (ls : List Left) → LeftsFit p wide m n (type_tree T Int ∷ u ∷ []) ls → LeftsFit p wide m n (ints ∷ u ∷ []) ls
     int_first wide m n u ls fit = subst (λ (v : TypeTree). LeftsFit p wide m n (v ∷ u ∷ []) ls) (int_tree T formed) fit
 
     -- one left side
     record KeyFits (h : Scope) (key : Left) : Type 0 where
       shows : Visible h (scope_behind scope (key ∷ []))
-      count : length s.sites + new_sites (key ∷ blank ∷ []) ≡ length h.sites
+      more : length s.sites ≤ length h.sites
+      upto : lefts_after (length s.sites) (key ∷ blank ∷ []) ≤ length h.sites
       fit : (n : ℕ) → length h.sites ≤ n → LeftsFit p scope (length s.sites) n (ints ∷ []) (key ∷ [])
-      moved : length h.sites ≡ length s.sites + new_sites (key ∷ [])
+      later : (n : ℕ) (y : Sts) → StsFit p wanted1 named true (scope_behind scope (key ∷ [])) (length h.sites) n y → StsFit p wanted1 named true (scope_behind scope (key ∷ [])) (lefts_after (length s.sites) (key ∷ [])) n y
 
     key_fits : (h : Scope) (b : ValueType) (key : Left) → SidesFit T text p all has s types_are scope h Int b (record { key = key; value = blank }) → KeyFits h key
     key_fits h b key sides =
-        let one1 = alone_sites key in
+        let before = subst (λ k. k ≤ length h.sites) (key_after (length s.sites) key) sides.upto in
         record {
           shows = subst (λ (w : List ℕ). Visible h w) (blank_scope scope key) sides.shows;
-          count = sides.count;
+          more = sides.more;
+          upto = sides.upto;
           fit = λ n le. one_only p scope (length s.sites) n ints (type_tree T b) key (int_first scope (length s.sites) n (type_tree T b) (key ∷ blank ∷ []) (sides.fit n le));
-          moved = omega (arith, sides.count, one1);
+          later = λ n y body. sts_wider p wanted1 named true (scope_behind scope (key ∷ [])) (length h.sites) (lefts_after (length s.sites) (key ∷ [])) n n before (omega arith) y body;
         }
 
     -- the numbers below an int
@@ -368,8 +356,9 @@ module _ (T : Table) (text : List ℕ) (p : Program) (all : List Site) (has : Ha
             subst (λ (y : Range). RangeFits looped s scope h y) (same_some is1)
             (record {
               visible = f.shows;
-              count = omega (arith, f.count);
-              fit = λ n le y body. (over1, f.fit n le, subst (λ j. StsFit p wanted1 named true (scope_behind scope (k ∷ [])) j n y) f.moved body);
+              more = f.more;
+              upto = f.upto;
+              fit = λ n le y body. (over1, f.fit n le, f.later n y body);
             })
 
     -- the indices of an array
@@ -382,8 +371,9 @@ module _ (T : Table) (text : List ℕ) (p : Program) (all : List Site) (has : Ha
             subst (λ (y : Range). RangeFits looped s scope h y) (same_some is1)
             (record {
               visible = f.shows;
-              count = omega (arith, f.count);
-              fit = λ n le y body. (small, f.fit n le, subst (λ j. StsFit p wanted1 named true (scope_behind scope (key ∷ [])) j n y) f.moved body);
+              more = f.more;
+              upto = f.upto;
+              fit = λ n le y body. (small, f.fit n le, f.later n y body);
             })
 
     -- its elements: the copy comes behind the new variables
@@ -403,23 +393,26 @@ module _ (T : Table) (text : List ℕ) (p : Program) (all : List Site) (has : Ha
         copy_is : site_type p site ≡ array_of a.length (type_tree T a.element)
         copy_is = site_shown T p all has after h_types ext site t (new_site h (of_copy h.setting) [] t at) ∙ tree
 
+        unmade : is_made p site ≡ false
+        unmade = unmade_shown T p all has after ext site (new_unmade h (of_copy h.setting) [] t at refl)
+
         whole : ExFits p scope (array_of a.length (type_tree T a.element)) x
         whole = subst (λ (u : TypeTree). ExFits p scope u x) tree over1
 
         copied_fits : (k v : Left) → SidesFit T text p all has s types_are (site ∷ scope) h Int a.element (record { key = k; value = v }) → RangeFits looped s scope after (record { over = over_copy site x a.length; key = k; value = v })
         copied_fits k v f = record {
           visible = visible_kept h after (scope_behind (site ∷ scope) (k ∷ v ∷ [])) f.shows (keeps_copy h (Some t) at);
-          count = omega (arith, f.count, longer);
+          more = omega (arith, f.more, longer);
+          upto = omega (arith, longer);
           fit = λ n le y body. (
             type_tree T a.element,
             copy_is,
             solid T formed (type_number T a.element),
             small,
-            sym f.count,
-            omega (arith, le, longer),
+            (f.upto, omega (arith, le, longer), unmade),
             whole,
             int_first (site ∷ scope) (length s.sites) n (type_tree T a.element) (k ∷ v ∷ []) (f.fit n (omega (arith, le, longer))),
-            subst (λ j. StsFit p wanted1 named true (scope_behind (site ∷ scope) (k ∷ v ∷ [])) j n y) (omega (arith, f.count, longer)) body,
+            subst (λ j. StsFit p wanted1 named true (scope_behind (site ∷ scope) (k ∷ v ∷ [])) j n y) (omega (arith, longer)) body,
           );
         }
 

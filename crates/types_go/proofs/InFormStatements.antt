@@ -1,5 +1,5 @@
 -- Typed statements are in form: sites are born in the order of the text, what is named is in scope, and each value has the type of its place.
-use Rattle.std.proofs.Common.{◌≡◌, ◌<◌, ℕ, ◌+◌, get_or, Bool, true, List, [], ◌∷◌, Option, Some, refl, sym, ap, ◌∙◌, subst, arith, length}
+use Rattle.std.proofs.Common.{◌≡◌, ◌<◌, ℕ, get_or, Bool, true, List, [], ◌∷◌, Option, Some, refl, sym, ap, ◌∙◌, subst, arith, length}
 use Rattle.std.specs.Prelude.{option_and_then, slice_get}
 use Rattle.std.specs.Option.{option_map}
 use Rattle.syntax.specs.Statements.{ValueSpec, Guard, Stm, Stms, Els}
@@ -10,7 +10,8 @@ use Rattle.typed.specs.Tables.{Table}
 use Rattle.typed.specs.Trees.{trees}
 use Rattle.typed.specs.Formed.{IsFormed}
 use Rattle.typed_syntax.specs.Types.{TypeTree, ints}
-use Rattle.typed_syntax.specs.Form.{births, births_all, scope_after, StFits, StsFit}
+use Rattle.typed_syntax.specs.Form.{declared_after, all_sites_after, scope_after, StFits, StsFit}
+use Rattle.value_laws.proofs.Ascending.{all_ordered, sts_wider}
 use Rattle.type_faults.specs.Given.{allowed}
 use Rattle.type_faults.proofs.Options.{and_then_some, map_some, same_some}
 use Rattle.names.specs.declared.scope.Known.{Known}
@@ -45,16 +46,14 @@ abbrev pub scope_behind_all : List ℕ → Sts → List ℕ
 scope_behind_all scope done = scope
 scope_behind_all scope (next t b) = scope_behind_all (scope_after scope t) b
 
-before_births : (a b : Sts) → births_all (before a b) ≡ births_all a + births_all b
-before_births done b = omega arith
-before_births (next t a) b = let rest = before_births a b in omega (arith, rest)
+before_after : (m : ℕ) (a b : Sts) → all_sites_after m (before a b) ≡ all_sites_after (all_sites_after m a) b
+before_after m done b = refl
+before_after m (next t a) b = before_after (declared_after m t) a b
 
 module _ (p : Program) (wanted1 : List TypeTree) (named : ℕ) where
-  before_fits : (looped : Bool) (scope : List ℕ) (m n : ℕ) (a b : Sts) → StsFit p wanted1 named looped scope m n a → StsFit p wanted1 named looped (scope_behind_all scope a) (m + births_all a) n b → StsFit p wanted1 named looped scope m n (before a b)
-  before_fits looped scope m n done b fa fb = let e : m + births_all done ≡ m = omega arith in subst (λ j. StsFit p wanted1 named looped scope j n b) e fb
-  before_fits looped scope m n (next t a) b fa fb =
-      let e : m + births_all (next t a) ≡ (m + births t) + births_all a = omega arith in
-      (fa.0, before_fits looped (scope_after scope t) (m + births t) n a b fa.1 (subst (λ j. StsFit p wanted1 named looped (scope_behind_all (scope_after scope t) a) j n b) e fb))
+  before_fits : (looped : Bool) (scope : List ℕ) (m n : ℕ) (a b : Sts) → StsFit p wanted1 named looped scope m n a → StsFit p wanted1 named looped (scope_behind_all scope a) (all_sites_after m a) n b → StsFit p wanted1 named looped scope m n (before a b)
+  before_fits looped scope m n done b fa fb = fb
+  before_fits looped scope m n (next t a) b fa fb = (fa.0, before_fits looped (scope_after scope t) (declared_after m t) n a b fa.1 fb)
 
 module _ (T : Table) (text : List ℕ) (p : Program) (all : List Site) (has : HasSites T p all) (table_formed : IsFormed T) (no_slice : HoldsNoSlice T) (own : Package) (own_types : own.types ≡ T) (signed : AreSigned T own.signatures p.funcs) (numbered : AreGlobals T own p) where
   -- a scope of the package has its table
@@ -87,21 +86,21 @@ module _ (T : Table) (text : List ℕ) (p : Program) (all : List Site) (has : Ha
     Whole looped s scope after b = StsFormed T text p all has wanted1 named looped s scope after b × Visible after (scope_behind_all scope b)
 
     one : (looped : Bool) (s after : Scope) (scope : List ℕ) (t : St) → Formed1 T text p all has wanted1 named looped s scope after t × Visible after (scope_after scope t) → Whole looped s scope after (alone t)
-    one looped s after scope t f = (record { count = omega (arith, f.0.count); fit = λ n le. (f.0.fit n le, tt) }, f.1)
+    one looped s after scope t f = (record { more = f.0.more; upto = f.0.upto; fit = λ n le. (f.0.fit n le, tt) }, f.1)
 
     -- a statement that keeps the scope
     kept : (looped : Bool) (s after : Scope) (scope : List ℕ) (t : St) → Visible s scope → Keeps s after → Formed1 T text p all has wanted1 named looped s scope after t → scope_after scope t ≡ scope → Whole looped s scope after (alone t)
     kept looped s after scope t v k f is = one looped s after scope t (f, subst (λ (w : List ℕ). Visible after w) (sym is) (visible_kept s after scope v k))
 
-    jump : (looped : Bool) (s : Scope) (scope : List ℕ) (t : St) (b : Sts) → births t ≡ 0 → (looped ≡ true → (m n : ℕ) → StFits p wanted1 named looped scope m n t) → scope_after scope t ≡ scope → Visible s scope → allowed looped (Some (alone t)) ≡ Some b → Whole looped s scope s b
+    jump : (looped : Bool) (s : Scope) (scope : List ℕ) (t : St) (b : Sts) → ((m : ℕ) → declared_after m t ≡ m) → (looped ≡ true → (m n : ℕ) → StFits p wanted1 named looped scope m n t) → scope_after scope t ≡ scope → Visible s scope → allowed looped (Some (alone t)) ≡ Some b → Whole looped s scope s b
     jump looped s scope t b none1 fits still v is =
         let a = allowed_is looped (Some (alone t)) b is in
         subst (λ (x : Sts). Whole looped s scope s x) (same_some a.1)
-        (one looped s s scope t (record { count = omega (arith, none1); fit = λ n le. fits a.0 (length s.sites) n }, subst (λ (w : List ℕ). Visible s w) (sym still) v))
+        (one looped s s scope t (record { more = omega arith; upto = omega (arith, none1 (length s.sites)); fit = λ n le. fits a.0 (length s.sites) n }, subst (λ (w : List ℕ). Visible s w) (sym still) v))
 
     specs_formed : (looped : Bool) (s : Scope) (scope : List ℕ) (vs : List ValueSpec) (b : Sts) → Visible s scope → package_of s ≡ own → Extends (behind_specs text s vs).sites all → spec_statements text s vs ≡ Some b
         → Whole looped s scope (behind_specs text s vs) b
-    specs_formed looped s scope [] b v g ext is = subst (λ (x : Sts). Whole looped s scope s x) (same_some is) (record { count = omega arith; fit = λ n le. tt }, v)
+    specs_formed looped s scope [] b v g ext is = subst (λ (x : Sts). Whole looped s scope s x) (same_some is) (record { more = omega arith; upto = omega arith; fit = λ n le. tt }, v)
     specs_formed looped s scope (spec ∷ vs) b v g ext is =
         let s1 = behind_spec text s spec in
         let q = and_then_some (λ t. option_map (next t) (spec_statements text s1 vs)) (spec_statement text s spec) b is in
@@ -113,8 +112,9 @@ module _ (T : Table) (text : List ℕ) (p : Program) (all : List Site) (has : Ha
         let rest = specs_formed looped s1 (scope_after scope q.0) vs k.0 first.1 (grow.kept ∙ g) ext k.1 in
         subst (λ (x : Sts). Whole looped s scope (behind_specs text s1 vs) x) k.2 (
           record {
-            count = omega (arith, first.0.count, rest.0.count);
-            fit = λ n le. (first.0.fit n (omega (arith, le, rest.0.count)), subst (λ j. StsFit p wanted1 named looped (scope_after scope q.0) j n k.0) (sym first.0.count) (rest.0.fit n le));
+            more = omega (arith, first.0.more, rest.0.more);
+            upto = omega (arith, all_ordered (declared_after (length s.sites) q.0) (length s1.sites) first.0.upto k.0, rest.0.upto);
+            fit = λ n le. (first.0.fit n (omega (arith, le, rest.0.more)), sts_wider p wanted1 named looped (scope_after scope q.0) (length s1.sites) (declared_after (length s.sites) q.0) n n first.0.upto (omega arith) k.0 (rest.0.fit n le));
           },
           rest.1,
         )
@@ -139,7 +139,7 @@ module _ (T : Table) (text : List ℕ) (p : Program) (all : List Site) (has : Ha
         let shows = fits.0.visible in
         let a = first sc shows ext2 in
         let b1 = second sc (visible_kept h inner sc shows (keeps_block text h body)) ext in
-        let whole = choice_formed T text p all has wanted1 named s scope v (typed s g) table_formed (λ r1 same2 e. agreed r1 (same2 ∙ g) e) looped h inner (closed last1) c y z fits (record { count = a.count; fit = a.fit }) (record { count = b1.count; fit = b1.fit }) in
+        let whole = choice_formed T text p all has wanted1 named s scope v (typed s g) table_formed (λ r1 same2 e. agreed r1 (same2 ∙ g) e) looped h inner (closed last1) c y z fits (record { more = a.more; upto = a.upto; fit = a.fit }) (record { more = b1.more; upto = b1.upto; fit = b1.fit }) in
         let keeps = fits.0.keeps (if_stmt c.condition y z) (λ s1. refl) in
         (subst (λ (x : St). Formed1 T text p all has wanted1 named looped s scope (closed last1) x) same1 whole, ap (scope_after scope) (sym same1) ∙ keeps)
 
@@ -155,7 +155,7 @@ module _ (T : Table) (text : List ℕ) (p : Program) (all : List Site) (has : Ha
           let inner = closed (behind_all text (opened s) ms) in
           let q = map_some (λ x. alone (block x)) (statements text r looped (opened s) ms) b is in
           let a = formed_all looped (opened s) scope ms q.0 (visible_opened s scope v) g ext q.1 in
-          subst (λ (x : Sts). Whole looped s scope inner x) q.2 (kept looped s inner scope (block q.0) v (keeps_block text s ms) (record { count = a.count; fit = a.fit }) refl)
+          subst (λ (x : Sts). Whole looped s scope inner x) q.2 (kept looped s inner scope (block q.0) v (keeps_block text s ms) (record { more = a.more; upto = a.upto; fit = a.fit }) refl)
       formed looped s scope (tree.if_stmt at g1 body rest) b v g ext is =
           let h = header text s g1.init in
           let inner = closed (behind_all text (opened h) body) in
@@ -172,29 +172,29 @@ module _ (T : Table) (text : List ℕ) (p : Program) (all : List Site) (has : Ha
           let b0 = with_setting h (in_body h.setting) in
           let inner = closed (behind_all text (opened b0) body) in
           let after = behind_loop s (closed inner) in
-          let v1 = visible_set s scope (in_header (carries c) s.setting) v in
+          let v1 = visible_set s scope (in_header (carries c) s.setting) v.kinds v in
           let u = map_some alone (loop_of (clause_head text l c) (statements text r true (opened b0) body)) b is in
           let q = loop_some (clause_head text l c) (statements text r true (opened b0) body) u.0 u.1 in
           let grow = grows_clause text l c in
           let ext1 = within_before p all h inner (keeps_grows h inner (keeps_loop_body text h body)) ext in
           let fits = clause_fits T text p all has wanted1 named l scope v1 (typed s g) table_formed (λ r1 same1 e. agreed r1 (same1 ∙ g) e) looped c q.0 q.2 ext1 in
           let shows = head_visible T text p all has wanted1 named l scope v1 (typed s g) table_formed (λ r1 same1 e. agreed r1 (same1 ∙ g) e) looped h q.0 fits in
-          let a = formed_all true (opened b0) (head_scope T text p all has wanted1 named l scope v1 (typed s g) table_formed (λ r1 same1 e. agreed r1 (same1 ∙ g) e) q.0) body q.1 (visible_opened b0 _ (visible_set h _ (in_body h.setting) shows)) (grow.kept ∙ g) ext q.3 in
-          let whole = loop_formed T text p all has wanted1 named l scope v1 (typed s g) table_formed (λ r1 same1 e. agreed r1 (same1 ∙ g) e) looped h (closed inner) q.0 q.1 fits (record { count = a.count; fit = a.fit }) in
+          let a = formed_all true (opened b0) (head_scope T text p all has wanted1 named l scope v1 (typed s g) table_formed (λ r1 same1 e. agreed r1 (same1 ∙ g) e) q.0) body q.1 (visible_opened b0 _ (visible_set h _ (in_body h.setting) shows.kinds shows)) (grow.kept ∙ g) ext q.3 in
+          let whole = loop_formed T text p all has wanted1 named l scope v1 (typed s g) table_formed (λ r1 same1 e. agreed r1 (same1 ∙ g) e) looped h (closed inner) q.0 q.1 fits (record { more = a.more; upto = a.upto; fit = a.fit }) in
           let keeps = loop_keeps T text p all has wanted1 named l scope v1 (typed s g) table_formed (λ r1 same1 e. agreed r1 (same1 ∙ g) e) looped h q.0 q.1 fits in
           subst (λ (x : Sts). Whole looped s scope after x) u.2
-          (kept looped s after scope u.0 v (keeps_loop text s c body) (subst (λ (x : St). Formed1 T text p all has wanted1 named looped s scope after x) q.4 (record { count = whole.count; fit = whole.fit })) (ap (scope_after scope) (sym q.4) ∙ keeps))
-      formed looped s scope (tree.break_stmt at) b v g ext is = jump looped s scope break_stmt b refl (λ l m n. l) refl v is
-      formed looped s scope (tree.continue_stmt at) b v g ext is = jump looped s scope continue_stmt b refl (λ l m n. l) refl v is
+          (kept looped s after scope u.0 v (keeps_loop text s c body) (subst (λ (x : St). Formed1 T text p all has wanted1 named looped s scope after x) q.4 (record { more = whole.more; upto = whole.upto; fit = whole.fit })) (ap (scope_after scope) (sym q.4) ∙ keeps))
+      formed looped s scope (tree.break_stmt at) b v g ext is = jump looped s scope break_stmt b (λ m. refl) (λ l m n. l) refl v is
+      formed looped s scope (tree.continue_stmt at) b v g ext is = jump looped s scope continue_stmt b (λ m. refl) (λ l m n. l) refl v is
       formed looped s scope (tree.return_stmt at es) b v g ext is =
           let q = map_some alone (returned r (seen text s es)) b is in
           subst (λ (x : Sts). Whole looped s scope s x) q.2 (one looped s s scope q.0 (return_formed T text p all has wanted1 named looped s scope v (typed s g) (agreed s g ext.0) r goes es q.0 q.1))
 
       formed_else : (looped : Bool) (s : Scope) (scope : List ℕ) (e : Els) (b : Sts) → Visible s scope → package_of s ≡ own → Within p all (behind_else text s e) → alternative text r looped s e ≡ Some b
           → StsFormed T text p all has wanted1 named looped s scope (behind_else text s e) b
-      formed_else looped s scope tree.no_else b v g ext is = subst (λ (x : Sts). StsFormed T text p all has wanted1 named looped s scope s x) (same_some is) (record { count = omega arith; fit = λ n le. tt })
+      formed_else looped s scope tree.no_else b v g ext is = subst (λ (x : Sts). StsFormed T text p all has wanted1 named looped s scope s x) (same_some is) (record { more = omega arith; upto = omega arith; fit = λ n le. tt })
       formed_else looped s scope (tree.else_block ms) b v g ext is =
-          let a = formed_all looped (opened s) scope ms b (visible_opened s scope v) g ext is in record { count = a.count; fit = a.fit }
+          let a = formed_all looped (opened s) scope ms b (visible_opened s scope v) g ext is in record { more = a.more; upto = a.upto; fit = a.fit }
       formed_else looped s scope (tree.else_if at g1 body rest) b v g ext is =
           let h = header text s g1.init in
           let inner = closed (behind_all text (opened h) body) in
@@ -208,7 +208,7 @@ module _ (T : Table) (text : List ℕ) (p : Program) (all : List Site) (has : Ha
 
       pub formed_all : (looped : Bool) (s : Scope) (scope : List ℕ) (ms : Stms) (b : Sts) → Visible s scope → package_of s ≡ own → Within p all (behind_all text s ms) → statements text r looped s ms ≡ Some b
           → StsFormed T text p all has wanted1 named looped s scope (behind_all text s ms) b
-      formed_all looped s scope tree.nil b v g ext is = subst (λ (x : Sts). StsFormed T text p all has wanted1 named looped s scope s x) (same_some is) (record { count = omega arith; fit = λ n le. tt })
+      formed_all looped s scope tree.nil b v g ext is = subst (λ (x : Sts). StsFormed T text p all has wanted1 named looped s scope s x) (same_some is) (record { more = omega arith; upto = omega arith; fit = λ n le. tt })
       formed_all looped s scope (tree.cons m ms) b v g ext is =
           let s1 = behind text s m in
           let q = and_then_some (λ t. option_map (before t) (statements text r looped s1 ms)) (statement text r looped s m) b is in
@@ -217,10 +217,10 @@ module _ (T : Table) (text : List ℕ) (p : Program) (all : List Site) (has : Ha
           let ext1 = within_before p all s1 (behind_all text s1 ms) (grows_all text s1 ms) ext in
           let first = formed looped s scope m q.0 v g ext1 q.1 in
           let others = formed_all looped s1 (scope_behind_all scope q.0) ms k.0 first.1 (grow.kept ∙ g) ext k.1 in
-          let born = before_births q.0 k.0 in
           subst (λ (x : Sts). StsFormed T text p all has wanted1 named looped s scope (behind_all text s1 ms) x) k.2
           (record {
-            count = omega (arith, first.0.count, others.count, born);
-            fit = λ n le. before_fits p wanted1 named looped scope (length s.sites) n q.0 k.0 (first.0.fit n (omega (arith, le, others.count)))
-                (subst (λ j. StsFit p wanted1 named looped (scope_behind_all scope q.0) j n k.0) (sym first.0.count) (others.fit n le));
+            more = omega (arith, first.0.more, others.more);
+            upto = omega (arith, before_after (length s.sites) q.0 k.0, all_ordered (all_sites_after (length s.sites) q.0) (length s1.sites) first.0.upto k.0, others.upto);
+            fit = λ n le. before_fits p wanted1 named looped scope (length s.sites) n q.0 k.0 (first.0.fit n (omega (arith, le, others.more)))
+                (sts_wider p wanted1 named looped (scope_behind_all scope q.0) (length s1.sites) (all_sites_after (length s.sites) q.0) n n first.0.upto (omega arith) k.0 (others.fit n le));
           })

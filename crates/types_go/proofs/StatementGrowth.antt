@@ -7,7 +7,7 @@ use Rattle.syntax.specs.Statements.{Simple, Guard, Targets, Clause, forever, whi
 use Rattle.syntax.specs.Statements as tree
 use Rattle.names.specs.Scope.{Scope, in_header, in_body, with_setting, opened, closed}
 use Rattle.expression_types.specs.Typing.{gives}
-use Rattle.signatures.proofs.Growth.{Grows, Keeps, grows_none, grows_twice, keeps_twice, keeps_none, keeps_grows, keeps_strings, keeps_set, keeps_inner, grows_entries}
+use Rattle.signatures.proofs.Growth.{Grows, Keeps, grows_none, grows_twice, keeps_twice, keeps_none, keeps_grows, keeps_strings, keeps_set, keeps_back, keeps_inner, grows_entries}
 use Rattle.simple_statements.specs.SimpleStatements.{strings_in}
 use Rattle.simple_statements.proofs.Growth.{grows_simple, grows_specs}
 use Rattle.types_go.specs.Ranges.{target_slots, copied, behind_copy, ranged, given, target_count, behind_targets, behind_range}
@@ -16,7 +16,7 @@ use Rattle.types_go.specs.Statements.{carries, looping, body_opened, behind_loop
 -- the site of a copy
 pub keeps_copy : (s : Scope) (t : Option ValueType) (at : Pos) → Keeps s (behind_copy s t at)
 keeps_copy s None at = keeps_none s
-keeps_copy s (Some t) at = record { blocks = refl; declared = ([], sym (append-nil s.declared), tt); sites = (_, refl); kept = refl; strings = omega arith }
+keeps_copy s (Some t) at = record { blocks = refl; declared = ([], sym (append-nil s.declared), tt); sites = (_, refl); kept = refl; strings = omega arith; kinds = λ k. k }
 
 module _ (text : List ℕ) where
   pub grows_header : (s : Scope) (init : Option Simple) → Grows (opened s) (header text s init)
@@ -62,8 +62,8 @@ module _ (text : List ℕ) where
       let h = clause_scope text l c in
       let b = with_setting h (in_body h.setting) in
       let inner = closed (behind_all text (opened b) body) in
-      let after = keeps_headed l h inner (grows_clause l c) (keeps_twice h b inner (keeps_set h (in_body h.setting)) (keeps_inner b (behind_all text (opened b) body) g)) in
-      keeps_twice s (closed inner) (behind_loop s (closed inner)) (keeps_twice s l (closed inner) (keeps_set s (in_header (carries c) s.setting)) after) (keeps_set (closed inner) s.setting)
+      let after = keeps_headed l h inner (grows_clause l c) (keeps_twice h b inner (keeps_set h (in_body h.setting) (λ k. k)) (keeps_inner b (behind_all text (opened b) body) g)) in
+      keeps_back s (closed inner) (keeps_twice s l (closed inner) (keeps_set s (in_header (carries c) s.setting) (λ k. k)) after)
 
   mutual
     pub grows : (s : Scope) (m : Stm) → Grows s (behind text s m)
@@ -112,4 +112,4 @@ module _ (text : List ℕ) where
   -- its body with the block around it
   pub keeps_loop_body : (h : Scope) (body : Stms) → Keeps h (closed (behind_all text (body_opened h) body))
   keeps_loop_body h body =
-      let b = with_setting h (in_body h.setting) in keeps_twice h b (closed (behind_all text (opened b) body)) (keeps_set h (in_body h.setting)) (keeps_block b body)
+      let b = with_setting h (in_body h.setting) in keeps_twice h b (closed (behind_all text (opened b) body)) (keeps_set h (in_body h.setting) (λ k. k)) (keeps_block b body)

@@ -43,10 +43,10 @@ module _ (P : Known → Type 0) where
 -- the package block names no variables of functions, its variables have their numbers, and its constants are held by their types
 module _ (text : List ℕ) where
   visible_constant : (s : Scope) (n : Name) (declares : Bool) → Visible s [] → Visible (constant_one text s n declares) []
-  visible_constant s n false v = record { bounded = v.bounded; shown = v.shown; held = more_known IsSound s.values v.held }
+  visible_constant s n false v = record { bounded = v.bounded; shown = v.shown; held = more_known IsSound s.values v.held; kinds = v.kinds }
   visible_constant s n true v =
       let w = visible_more s s.sites [] [] (spelled text n) (Constant (record { 0 = length s.values })) v (extends_none s.sites) (λ u h. h) tt in
-      record { bounded = w.0; shown = w.1; held = more_known IsSound s.values v.held }
+      record { bounded = w.0; shown = w.1; held = more_known IsSound s.values v.held; kinds = v.kinds }
 
   -- one more package variable with a name keeps the numbers of the others
   get_more : (ks : List ℕ) (k g j : ℕ) → slice_get ks g ≡ Some j → slice_get (ks ++ k ∷ []) g ≡ Some j
@@ -64,7 +64,7 @@ module _ (text : List ℕ) where
   shown_more T sites ks k d h = tt
 
   visible_numbered : (s : Scope) → Visible s [] → Visible (with_global s) []
-  visible_numbered s v = record { bounded = v.bounded; shown = λ name d is. shown_more s.types s.sites s.globals (length s.values) d (v.shown name d is); held = v.held }
+  visible_numbered s v = record { bounded = v.bounded; shown = λ name d is. shown_more s.types s.sites s.globals (length s.values) d (v.shown name d is); held = v.held; kinds = v.kinds }
 
   visible_named : (s : Scope) (n : Name) (declares : Bool) → Visible s [] → Visible (numbered_one text s n declares) []
   visible_named s n false v = visible_numbered s v
@@ -72,21 +72,21 @@ module _ (text : List ℕ) where
       let d : Declared = Global (record { 0 = length s.values }) (record { 0 = length s.globals }) in
       let s1 = with_global s in
       let w = visible_more s1 s.sites [] [] (spelled text n) d (visible_numbered s v) (extends_none s.sites) (λ u h. h) (get_last s.globals (length s.values)) in
-      record { bounded = w.0; shown = w.1; held = v.held }
+      record { bounded = w.0; shown = w.1; held = v.held; kinds = v.kinds }
 
   visible_variable : (s : Scope) (n : Name) (blank declares : Bool) → Visible s [] → Visible (variable_one text s n blank declares) []
-  visible_variable s n true declares v = record { bounded = v.bounded; shown = v.shown; held = more_known IsSound s.values v.held }
-  visible_variable s n false true v = let w = visible_named s n true v in record { bounded = w.bounded; shown = w.shown; held = more_known IsSound s.values v.held }
-  visible_variable s n false false v = let w = visible_named s n false v in record { bounded = w.bounded; shown = w.shown; held = more_known IsSound s.values v.held }
+  visible_variable s n true declares v = record { bounded = v.bounded; shown = v.shown; held = more_known IsSound s.values v.held; kinds = v.kinds }
+  visible_variable s n false true v = let w = visible_named s n true v in record { bounded = w.bounded; shown = w.shown; held = more_known IsSound s.values v.held; kinds = v.kinds }
+  visible_variable s n false false v = let w = visible_named s n false v in record { bounded = w.bounded; shown = w.shown; held = more_known IsSound s.values v.held; kinds = v.kinds }
 
   visible_type : (s : Scope) (t : TypeSpec) (declares : Bool) → Visible s [] → Visible (type_one text s t declares) []
-  visible_type s t false v = record { bounded = v.bounded; shown = v.shown; held = v.held }
+  visible_type s t false v = record { bounded = v.bounded; shown = v.shown; held = v.held; kinds = v.kinds }
   visible_type s t true v =
       let w = visible_more s s.sites [] [] (spelled text t.name) («Type» (Struct (record { 0 = length s.fields }))) v (extends_none s.sites) (λ u h. h) tt in
-      record { bounded = w.0; shown = w.1; held = v.held }
+      record { bounded = w.0; shown = w.1; held = v.held; kinds = v.kinds }
 
   visible_known : (s : Scope) (k : ℕ) (i : Item) → Visible s [] → Visible (with_known s k (given text s i)) []
-  visible_known s k i v = record { bounded = v.bounded; shown = v.shown; held = set_known IsSound s.values k (given text s i) (λ x is. given_sound text s s.values v.held i x is) v.held }
+  visible_known s k i v = record { bounded = v.bounded; shown = v.shown; held = set_known IsSound s.values k (given text s i) (λ x is. given_sound text s s.values v.held i x is) v.held; kinds = v.kinds }
 
 module _ (text : List ℕ) (heads : Scope) where
   visible_function : (s : Scope) (g : TreeFunction) (external declares : Bool) → Visible s [] → Visible (declared_one text heads s g external declares) []
@@ -96,11 +96,11 @@ module _ (text : List ℕ) (heads : Scope) where
       by true false = v
       by true true =
           let w = visible_more s s.sites [] [] (spelled text g.name) (External (external_named (spelled text g.name)) g.name.pos) v (extends_none s.sites) (λ u h. h) tt in
-          record { bounded = w.0; shown = w.1; held = v.held }
-      by false false = record { bounded = v.bounded; shown = v.shown; held = v.held }
+          record { bounded = w.0; shown = w.1; held = v.held; kinds = v.kinds }
+      by false false = record { bounded = v.bounded; shown = v.shown; held = v.held; kinds = v.kinds }
       by false true =
           let w = visible_more s s.sites [] [] (spelled text g.name) (Function (record { 0 = length s.signatures })) v (extends_none s.sites) (λ u h. h) tt in
-          record { bounded = w.0; shown = w.1; held = v.held }
+          record { bounded = w.0; shown = w.1; held = v.held; kinds = v.kinds }
 
   pub visible_package : (s : Scope) (ds : List Declaration) → Visible s [] → Visible (settled text (with_items text heads s ds) (items_in ds)) []
   visible_package s ds v =

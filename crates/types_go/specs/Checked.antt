@@ -4,7 +4,7 @@ use Rattle.base.specs.declared.pos.Pos.{Pos}
 use Rattle.syntax.specs.Declarations.{Syntax}
 use Rattle.typed_syntax.specs.Syntax.{Func, Program}
 use Rattle.typed.specs.Trees.{trees}
-use Rattle.typed.specs.View.{site_types, addresses_taken, program_of}
+use Rattle.typed.specs.View.{site_types, addresses_taken, made_by_expressions, program_of}
 use Rattle.typed_syntax.specs.Types.{TypeTree}
 use Rattle.typed.specs.declared.program.Site.{Site}
 use Rattle.typed.specs.declared.program.Program.{Program as ProgramData}
@@ -62,6 +62,7 @@ program_with t h funcs main = record {
   types = types_in h;
   sites = sites_types t h;
   taken = addresses_taken (sites_in t h);
+  made = made_by_expressions (sites_in t h);
   strings = strings_in t h;
   globals = map (begun_at (sites_types t h)) (globals_in t h);
   main = main;

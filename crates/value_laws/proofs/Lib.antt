@@ -3,3 +3,4 @@ pub mod Parts
 pub mod Zeros
 pub mod Equal
 pub mod Table
+pub mod Ascending

@@ -9,7 +9,7 @@ use Rattle.frame_layout.proofs.words.site_starts.Goals as goal
 
 pub overflow_add-cell : goal.overflow_add-cell
 overflow_add-cell c =
-    let more = cells_more (placement_of c.args.placement.now) c.args.first c.loop-i.i c.args.count (omega arith) in
+    let more = cells_more (placement_of c.args.placement.now) (program_of c.args.program.now).made c.args.first c.loop-i.i c.args.count (omega arith) in
     omega (arith, more, c.loop-i.invariant.numbered, c.cells_at.ensures.is, c.requires)
 
 pub overflow_cast-word-in-loop-i : goal.overflow_cast-word-in-loop-i
@@ -24,15 +24,15 @@ overflow_add-word c =
 
 pub loop-i-preserved : goal.loop-i-preserved
 loop-i-preserved c =
-    let l = placement_of c.args.placement.now in let sites = (program_of c.args.program.now).sites in let i = c.loop-i.i in let cell = c.loop-i.cell in let word = c.loop-i.word in let old = c.loop-i.starts.items in
-    let cells = cells_more l c.args.first i c.args.count (omega arith) in
+    let l = placement_of c.args.placement.now in let made = (program_of c.args.program.now).made in let sites = (program_of c.args.program.now).sites in let i = c.loop-i.i in let cell = c.loop-i.cell in let word = c.loop-i.word in let old = c.loop-i.starts.items in
+    let cells = cells_more l made c.args.first i c.args.count (omega arith) in
     let more = between_more l sites c.args.first i c.args.count (omega arith) in
     let now = start_at l (c.args.first + i) cell word in
-    let rest = starts l sites (c.args.first + (i + 1)) (cell + c.cells_at.result) (word + c.stack_words.result) (c.args.count - (i + 1)) in
-    let next : starts l sites (c.args.first + i) cell word (c.args.count - i) ≡ now ∷ rest =
-    starts_more l sites c.args.first i cell word c.args.count (omega arith)
-    ∙ ap (λ k. now ∷ starts l sites (c.args.first + (i + 1)) (cell + k) (word + stack_words l sites (c.args.first + i)) (c.args.count - (i + 1))) (sym c.cells_at.ensures.is)
-    ∙ ap (λ w. now ∷ starts l sites (c.args.first + (i + 1)) (cell + c.cells_at.result) (word + w) (c.args.count - (i + 1))) (sym c.stack_words.ensures.is) in
+    let rest = starts l made sites (c.args.first + (i + 1)) (cell + c.cells_at.result) (word + c.stack_words.result) (c.args.count - (i + 1)) in
+    let next : starts l made sites (c.args.first + i) cell word (c.args.count - i) ≡ now ∷ rest =
+    starts_more l made sites c.args.first i cell word c.args.count (omega arith)
+    ∙ ap (λ k. now ∷ starts l made sites (c.args.first + (i + 1)) (cell + k) (word + stack_words l sites (c.args.first + i)) (c.args.count - (i + 1))) (sym c.cells_at.ensures.is)
+    ∙ ap (λ w. now ∷ starts l made sites (c.args.first + (i + 1)) (cell + c.cells_at.result) (word + w) (c.args.count - (i + 1))) (sym c.stack_words.ensures.is) in
     record {
       numbered = grind (arith, common_steps, cells);
       counted = grind (arith, common_steps, more);
