@@ -6,6 +6,7 @@ use crate::building::{
 };
 use base::{FuncId, NoMemory, SiteId};
 use deref_walk::Loc;
+use escape_placement::place;
 use param_tags::Solved;
 use std::alloc::Global;
 use std::test::Fail;
@@ -166,6 +167,16 @@ fn loops(rt: HostRuntime) -> Result<(), Fail> {
     assert_eq!(rt; placed(&of_carried, 0), Placed::Stack);
     assert_eq!(rt; placed(&of_carried, 1), Placed::Flow(site(2)));
     assert_eq!(rt; placed(&of_carried, 2), Placed::Flow(Loc::Carry(SiteId(0))));
+    Ok(())
+}
+
+#[test]
+fn placements(rt: HostRuntime) -> Result<(), Fail> {
+    let alloc = rt.alloc();
+    let of_loop = solved(alloc, &looped(alloc)?)?;
+    let placement = place(alloc, &of_loop)?;
+    assert!(rt; !placement.at(0));
+    assert!(rt; placement.at(1));
     Ok(())
 }
 
